@@ -1,0 +1,3 @@
+-- The definitions of the map: numbers, views, geometry, colours, painting and images.
+pub mod Rounding
+pub mod Positions
