@@ -4,8 +4,8 @@ use Rattle.std.proofs.lemmas.Int.{ints}
 use Rattle.std.proofs.lemmas.Bool.Decides.{nat_tests, when_true}
 use Rattle.cv_model.specs.Positions.{Rectangle, IsDoubled}
 use Rattle.cv_model.specs.Views.{PixelGrid, IsView, grid_of}
-use Rattle.cv_geom.specs.declared.frames.ViewError.{ViewError}
-use Rattle.cv_geom.specs.declared.frames.ViewError.TheVariants.{Size, Empty, Range}
+use Rattle.cv_geom.specs.declared.views.ViewError.{ViewError}
+use Rattle.cv_geom.specs.declared.views.ViewError.TheVariants.{Size, Empty, Range}
 use Rattle.cv_geom.specs.Views.{is_size, is_spread, is_doubled, is_in_range, right_of, bottom_of, kept, view_of, IsSize, IsNoSize, IsSpread, IsEmpty, IsFar, LeavesRange}
 
 -- a test is true where P holds and false where Q does, and these exclude each other

@@ -2,8 +2,8 @@
 use Rattle.std.specs.Prelude.{ℕ, ◌≡◌, ◌*◌, ◌<◌, ◌≤◌, nat_le, ℤ, pos, negsuc, ◌+ℤ◌, ◌-ℤ◌, ◌*ℤ◌, ◌<ℤ◌, ◌≤ℤ◌, int_lt, int_le, Bool, ◌&&◌, if◌then◌else◌, ◌⊎◌, Result, Ok, Err}
 use Rattle.cv_model.specs.Positions.{Rectangle}
 use Rattle.cv_model.specs.Views.{PixelGrid, grid_of}
-use Rattle.cv_geom.specs.declared.frames.ViewError.{ViewError}
-use Rattle.cv_geom.specs.declared.frames.ViewError.TheVariants.{Size, Empty, Range}
+use Rattle.cv_geom.specs.declared.views.ViewError.{ViewError}
+use Rattle.cv_geom.specs.declared.views.ViewError.TheVariants.{Size, Empty, Range}
 
 -- sides of 1 to 4,096 pixels, and at most 2,097,152 pixels
 abbrev pub is_size : ℕ → ℕ → Bool
