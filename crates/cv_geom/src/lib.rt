@@ -6,10 +6,12 @@
 #![tactic(auto)]
 
 pub mod centres;
+mod lengths;
 pub mod markers;
 mod measures;
 pub mod parity;
 pub mod pens;
+mod range;
 pub mod views;
 
 pub use centres::centre;
