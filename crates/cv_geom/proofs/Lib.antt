@@ -4,3 +4,5 @@ pub mod Tests
 pub mod Crossings
 pub mod Places
 pub mod Causes
+pub mod TilingLemmas
+pub mod ViewLemmas

@@ -6,6 +6,7 @@
 #![tactic(auto)]
 
 pub mod centres;
+pub mod laws;
 mod lengths;
 pub mod markers;
 mod measures;
