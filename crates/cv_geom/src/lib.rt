@@ -19,4 +19,7 @@ pub use centres::centre;
 pub use markers::marked;
 pub use parity::inside;
 pub use pens::near;
-pub use views::{ViewError, view_of};
+pub use views::{ViewError, pan, view_of, zoom};
+
+#[cfg(test)]
+mod tests;
