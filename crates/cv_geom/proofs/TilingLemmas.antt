@@ -1,12 +1,12 @@
 -- The crossings of edges in any order and direction, and their parity.
-use Rattle.std.proofs.Common.{◌≡◌, ◌∙◌, sym, ap, refl, ℕ, ◌+◌, ◌%◌, ◌==◌, Bool, true, false, cond, not, ◌&&◌, if◌then◌else◌, inl, inr, List, [], ◌∷◌, ◌++◌, arith}
+use Rattle.std.proofs.Common.{◌≡◌, ◌∙◌, sym, ap, refl, ℕ, ◌+◌, ◌%◌, ◌==◌, Bool, true, false, cond, ◌&&◌, if◌then◌else◌, inl, inr, List, [], ◌∷◌, ◌++◌, arith}
 use Rattle.std.specs.List.{flat_map}
 use Rattle.std.proofs.lemmas.List.Sums.{sum_by-cons, sum_by-append}
-use Rattle.std.proofs.lemmas.List.Sorted.{sum_by-IsPermutation}
+use Rattle.std.proofs.lemmas.List.Sorted.{sum_by-IsPermutation, IsPermutation-refl}
 use Rattle.std.proofs.lemmas.Bool.Decides.{nat_tests}
 use Rattle.cv_model.specs.Positions.{Position, doubled}
 use Rattle.cv_model.specs.Polygons.{is_low, passes_right, crosses, is_crossed, crossings, edges, is_inside}
-use Rattle.cv_geom.specs.Tilings.{IsSameEdge, ArePairwiseSame, HaveSameEdges, Unites}
+use Rattle.cv_geom.specs.Tilings.{IsSameEdge, ArePairwiseSame, HaveSameEdges, Unites, exactly_one, corner, SquaresUnite}
 
 -- an edge and its reverse cross alike
 crosses_alike : (p a b : Position) → crosses p a b ≡ crosses p b a
@@ -48,10 +48,10 @@ crossings-same p es fs (gs, moved, same) =
     sym (sum_by-IsPermutation (once p) es gs moved) ∙ crossings-pairwise p gs fs same
 
 -- what the two own and share, and the parity of all
-parity_of_sums : (a b s : ℕ) → ((a + b) % 2 == 1) ≡ (if (a + s) % 2 == 1 then not ((b + s) % 2 == 1) else ((b + s) % 2 == 1))
+parity_of_sums : (a b s : ℕ) → ((a + b) % 2 == 1) ≡ exactly_one ((a + s) % 2 == 1) ((b + s) % 2 == 1)
 parity_of_sums a b s = grind (arith, nat_tests)
 
-pub is_inside-united : (a b c : List (List Position)) (p : Position) → Unites a b c → is_inside p c ≡ (if is_inside p a then not (is_inside p b) else is_inside p b)
+pub is_inside-united : (a b c : List (List Position)) (p : Position) → Unites a b c → is_inside p c ≡ exactly_one (is_inside p a) (is_inside p b)
 is_inside-united a b c p united =
     let own_a = crossings p united.own_a in
     let own_b = crossings p united.own_b in
@@ -62,5 +62,26 @@ is_inside-united a b c p united =
     rw (of_a, of_b, of_c) (parity_of_sums own_a own_b shared)
 
 -- two tests that don't hold together hold as often as one of them does
-pub counted_once : (x y : Bool) → (x && y) ≡ false → 0 + cond x 1 0 + cond y 1 0 ≡ (if (if x then not y else y) then 1 else 0)
+pub counted_once : (x y : Bool) → (x && y) ≡ false → 0 + cond x 1 0 + cond y 1 0 ≡ (if exactly_one x y then 1 else 0)
 counted_once x y apart = grind arith
+
+-- a list has its own edges
+own_edges : (es : List (Position × Position)) → HaveSameEdges es es
+own_edges es = (es, IsPermutation-refl es, alike es)
+  where
+    alike : (fs : List (Position × Position)) → ArePairwiseSame fs fs
+    alike [] = tt
+    alike (f ∷ fs) = (inl refl, alike fs)
+
+pub squares_unite : SquaresUnite
+squares_unite =
+    let own_a = (corner 2 2, corner 0 2) ∷ (corner 0 2, corner 0 0) ∷ (corner 0 0, corner 2 0) ∷ [] in
+    let own_b = (corner 2 0, corner 4 0) ∷ (corner 4 0, corner 4 2) ∷ (corner 4 2, corner 2 2) ∷ [] in
+    record {
+      own_a = own_a;
+      own_b = own_b;
+      shared = (corner 2 0, corner 2 2) ∷ [];
+      a_is = own_edges (own_a ++ (corner 2 0, corner 2 2) ∷ []);
+      b_is = (own_b ++ (corner 2 2, corner 2 0) ∷ [], IsPermutation-refl _, (inl refl, (inl refl, (inl refl, (inr refl, tt)))));
+      c_is = own_edges (own_a ++ own_b);
+    }

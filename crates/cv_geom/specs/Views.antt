@@ -1,4 +1,4 @@
--- The view of an extent, and why there is none.
+-- Views: the view of an extent or why there is none, and views moved and scaled.
 use Rattle.std.specs.Prelude.{ℕ, max, ◌≡◌, ◌*◌, ◌<◌, ◌≤◌, nat_le, ℤ, pos, negsuc, ◌+ℤ◌, ◌-ℤ◌, ◌*ℤ◌, ◌<ℤ◌, ◌≤ℤ◌, int_lt, int_le, Bool, ◌&&◌, if◌then◌else◌, ◌⊎◌, Result, Ok, Err}
 use Rattle.cv_model.specs.Positions.{Rectangle}
 use Rattle.cv_model.specs.Views.{PixelGrid, natural, ceiling, grid_of}
@@ -41,6 +41,30 @@ view_of e w h =
     then (if is_spread e then kept (grid_of e w h) else Err Empty)
     else Err Size
 
+-- sides of 1 to 4,096 pixels, and at most 2,097,152 pixels
+abbrev pub IsSize : ℕ → ℕ → Type 0
+IsSize w h = (1 ≤ w) × (w ≤ 4096) × (1 ≤ h) × (h ≤ 4096) × (w * h ≤ 2097152)
+
+-- a side is 0 or above 4,096 pixels, or there are more than 2,097,152 pixels
+abbrev pub IsNoSize : ℕ → ℕ → Type 0
+IsNoSize w h = (w ≡ 0) ⊎ (h ≡ 0) ⊎ (4096 < w) ⊎ (4096 < h) ⊎ (2097152 < w * h)
+
+-- an extent has a width and a height
+abbrev pub IsSpread : Rectangle → Type 0
+IsSpread e = (e.xmin <ℤ e.xmax) × (e.ymin <ℤ e.ymax)
+
+-- an extent has no width or no height
+abbrev pub IsEmpty : Rectangle → Type 0
+IsEmpty e = (e.xmax ≤ℤ e.xmin) ⊎ (e.ymax ≤ℤ e.ymin)
+
+-- a number is no coordinate in doubled millionths
+abbrev pub IsFar : ℤ → Type 0
+IsFar z = (z <ℤ negsuc 3999999999999999) ⊎ (pos 4000000000000000 <ℤ z)
+
+-- an edge of a grid is out of range: the left, the right, the top or the bottom one
+abbrev pub LeavesRange : PixelGrid → Type 0
+LeavesRange v = (IsFar v.lx2 ⊎ IsFar (right_of v)) ⊎ (IsFar v.ty2 ⊎ IsFar (bottom_of v))
+
 -- a grid moved by so many of its pixels, eastwards and southwards
 abbrev pub moved : PixelGrid → ℤ → ℤ → PixelGrid
 moved v dx dy = record v { lx2 = v.lx2 +ℤ pos 2 *ℤ dx *ℤ v.u; ty2 = v.ty2 -ℤ pos 2 *ℤ dy *ℤ v.u }
@@ -68,27 +92,3 @@ IsZoomPart n = (1 ≤ n) × (n ≤ 1000)
 -- the view with pixels num / den times as long, round the same middle, if that stays in range
 abbrev pub zoom : PixelGrid → ℕ → ℕ → Result PixelGrid ViewError
 zoom v num den = kept (resized v (pos (scaled_side v.u num den)))
-
--- sides of 1 to 4,096 pixels, and at most 2,097,152 pixels
-abbrev pub IsSize : ℕ → ℕ → Type 0
-IsSize w h = (1 ≤ w) × (w ≤ 4096) × (1 ≤ h) × (h ≤ 4096) × (w * h ≤ 2097152)
-
--- a side is 0 or above 4,096 pixels, or there are more than 2,097,152 pixels
-abbrev pub IsNoSize : ℕ → ℕ → Type 0
-IsNoSize w h = (w ≡ 0) ⊎ (h ≡ 0) ⊎ (4096 < w) ⊎ (4096 < h) ⊎ (2097152 < w * h)
-
--- an extent has a width and a height
-abbrev pub IsSpread : Rectangle → Type 0
-IsSpread e = (e.xmin <ℤ e.xmax) × (e.ymin <ℤ e.ymax)
-
--- an extent has no width or no height
-abbrev pub IsEmpty : Rectangle → Type 0
-IsEmpty e = (e.xmax ≤ℤ e.xmin) ⊎ (e.ymax ≤ℤ e.ymin)
-
--- a number is no coordinate in doubled millionths
-abbrev pub IsFar : ℤ → Type 0
-IsFar z = (z <ℤ negsuc 3999999999999999) ⊎ (pos 4000000000000000 <ℤ z)
-
--- an edge of a grid is out of range: the left, the right, the top or the bottom one
-abbrev pub LeavesRange : PixelGrid → Type 0
-LeavesRange v = (IsFar v.lx2 ⊎ IsFar (right_of v)) ⊎ (IsFar v.ty2 ⊎ IsFar (bottom_of v))

@@ -26,11 +26,11 @@ fn offset(at: u32, side: u32, u: i64) -> i64
     ensures low { pos 0 ≤ℤ result }
     ensures high { result ≤ℤ (pos (2 * side) *ℤ u) }
 {
-    odd(at) * u
+    half_pixels(at) * u
 }
 
-/// The odd number of this place.
-fn odd(at: u32) -> i64
+/// Half pixels from the edge before pixel 0 to the centre of pixel `at`.
+fn half_pixels(at: u32) -> i64
     ensures { result ≡ pos (2 * at + 1) }
 {
     2 * i64::from(at) + 1

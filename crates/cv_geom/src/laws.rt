@@ -1,14 +1,15 @@
 //! Laws of views and of polygons side by side, each the clause of a call that does nothing.
 
 ghost use Rattle.cv_geom.specs.ViewLaws.{PansAdd, ViewsShowTheirExtent, CentresLieWithin};
-ghost use Rattle.cv_geom.specs.Tilings.{ReversesCrossAlike, SharedEdgesCancel, TilesCoverOnce};
+ghost use Rattle.cv_geom.specs.Tilings.{ReversesCrossAlike, SharedEdgesCancel, TilesCoverOnce, SquaresUnite};
 
 /// Two pans in a row are the pan by their sums.
 pub fn pans_add()
     ensures { PansAdd }
 {}
 
-/// The view of an extent shows it whole and in its middle, with a margin that only rounding adds, in one direction at least.
+/// The view of an extent shows it whole and in its middle.
+/// In one direction at least the margin is less than rounding adds.
 pub fn views_show_their_extent()
     ensures { ViewsShowTheirExtent }
 {}
@@ -23,13 +24,19 @@ pub fn reverses_cross_alike()
     ensures { ReversesCrossAlike }
 {}
 
-/// A position is inside the union of two polygons, made by leaving out the edges that they share, exactly where it is
-/// inside one of the two and not in both.
+/// A position is inside the union of two polygons, which has their edges without the ones that they share,
+/// exactly where it is inside one of the two and not in both.
 pub fn shared_edges_cancel()
     ensures { SharedEdgesCancel }
 {}
 
-/// Of two polygons side by side exactly one covers each position of their union, also on the common border.
+/// Of two polygons side by side exactly one covers each position of their union, on the common border too.
+/// So fills that are not opaque are laid there once and not twice or never.
 pub fn tiles_cover_once()
     ensures { TilesCoverOnce }
+{}
+
+/// Two squares side by side have a rectangle as their union.
+pub fn squares_unite()
+    ensures { SquaresUnite }
 {}

@@ -19,7 +19,6 @@ pub returns : goal.returns
 returns c =
     let fits : FitsSigned w64 c.view.inside.u = search rules in
     let unit = to_z-of_z w64 c.view.inside.u fits in
-    let ranges = invariant_of-result c in
     let left = c.view.invariant.left in
     let right = c.view.invariant.right in
     let top = c.view.invariant.top in
