@@ -1,0 +1,2 @@
+-- Lemmas on the definitions, for the proofs of all crates.
+pub mod Rows
