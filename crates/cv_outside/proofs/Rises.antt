@@ -1,5 +1,5 @@
 -- What a count that rose says along later calls, for the crates above.
-use Rattle.std.proofs.Common.{ℕ, ◌<◌, ◌≤◌, ◌⊎◌, inl, inr, arith}
+use Rattle.std.proofs.Common.{ℕ, ◌<◌, ◌≤◌, inl, inr, arith}
 use Rattle.cv_outside.specs.Counts.{Rose}
 
 -- a count that rose has risen after later calls too

@@ -9,14 +9,18 @@
 
 pub mod ends;
 pub mod gates;
+pub mod memory;
 pub mod shelves;
 pub mod sinks;
+pub mod sure;
 pub mod trays;
 pub mod whole;
 
 pub use ends::{ReadEnd, SinkEnd, TrayEnd, Unread, Unwritten};
 pub use gates::{Gate, Open};
+pub use memory::{MemShelf, MemSink, MemTray};
 pub use shelves::Shelf;
 pub use sinks::Sink;
+pub use sure::{Files, SureShelf, SureSink, SureTray};
 pub use trays::Tray;
 pub use whole::{read_file, write_all};

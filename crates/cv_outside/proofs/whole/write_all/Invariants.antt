@@ -7,7 +7,7 @@ invariant-loop-at g l = record {
   told : g.O.Sink.tells l.out ≡ g.O.Sink.tells l.fn.out;
   counts : g.O.Sink.faults l.fn.out ≤ g.O.Sink.faults l.out;
   within : l.at ≤ length l.text;
-  bytes : IsTrue (g.O.Sink.tells l.fn.out) → g.O.Sink.taken l.out ≡ g.O.Sink.taken l.fn.out ++ take l.at l.text
+  bytes : IsTrue (g.O.Sink.tells l.fn.out) → g.O.Sink.taken l.out ≡ g.O.Sink.taken l.fn.out ++ take l.at l.text;
 }
 
 abbrev pub decreases-loop-at : goal.decreases-loop-at
