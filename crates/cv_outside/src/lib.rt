@@ -24,3 +24,6 @@ pub use sinks::Sink;
 pub use sure::{Files, SureShelf, SureSink, SureTray};
 pub use trays::Tray;
 pub use whole::{read_file, write_all};
+
+#[cfg(test)]
+mod tests;
