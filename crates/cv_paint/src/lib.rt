@@ -1,13 +1,9 @@
-// A library with one function.
+//! The painter: from features to the pixels of a picture.
+//!
+//! Contract: the picture is that of the definitions, at every pixel.
+//! Definitions: `Layers` and `Pictures` of `cv_model`. Takes memory for the pixels; no handle.
 #![tactic(auto)]
 
-ghost use Rattle.std.specs.Prelude.{◌≡◌};
-ghost use Rattle.cv_paint.specs.Echo.{echo_of};
+pub mod plain;
 
-// The `ensures` clause is the contract: what `echo` returns is `echo_of` of its argument, a definition
-// in `specs/Echo.antt`, which a caller's clause can cite too.
-pub fn echo(x: usize) -> usize
-    ensures { result ≡ echo_of x }
-{
-    x
-}
+pub use plain::quick;
