@@ -1,2 +1,3 @@
 -- What the command's words ask for, what a file in the plain form says, and what stands at each end.
 pub mod Words
+pub mod Ends
