@@ -1,0 +1,5 @@
+-- What the proofs of this crate share.
+pub mod Products
+pub mod Crossings
+pub mod Places
+pub mod Ranges

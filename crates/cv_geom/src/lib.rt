@@ -1,0 +1,14 @@
+//! Views of the map, and the exact tests of geometries against pixel centres.
+//!
+//! Contract: each call answers exactly what the definition of its name says, for all values of its types.
+//! Definitions: `Views` here; `Views` and `Polygons` of `cv_model`.
+//! No call takes memory, no handle is needed.
+#![tactic(auto)]
+
+pub mod centres;
+pub mod frames;
+pub mod parity;
+
+pub use centres::centre;
+pub use frames::{ViewError, view_of};
+pub use parity::inside;
