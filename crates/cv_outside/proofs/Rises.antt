@@ -13,6 +13,10 @@ rose_after old mid new earlier (inl more) = inl (omega arith)
 rose_after old mid new earlier (inr last) = inr last
 
 -- a count that stands still below its last value did not rise
-pub no_rise : (n : ℕ) → n < 18446744073709551615 → Rose n n → ⊥
-no_rise n below (inl more) = omega arith
-no_rise n below (inr last) = omega arith
+pub no_rise_at : (n : ℕ) → n < 18446744073709551615 → Rose n n → ⊥
+no_rise_at n below (inl more) = omega arith
+no_rise_at n below (inr last) = omega arith
+
+-- a count that is always 0, as of a device that never fails, did not rise
+pub no_rise : Rose 0 0 → ⊥
+no_rise rose = no_rise_at 0 (omega arith) rose

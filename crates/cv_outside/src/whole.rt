@@ -40,6 +40,7 @@ pub fn read_file<F: Shelf>(
 }
 
 /// Writes a whole text, piece by piece, however little the sink takes of each.
+#[tactic(auto, using(crate::proofs::Taken::taken_on))]
 pub fn write_all<O: Sink>(out: &mut O, text: &[u8]) -> Result<(), Unwritten>
     ensures told { O.tells out.new ≡ O.tells out.old }
     ensures counts { O.faults out.old ≤ O.faults out.new }
