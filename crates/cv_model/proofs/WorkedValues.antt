@@ -1,9 +1,9 @@
 -- Worked values of the definitions, each by computing it.
-use Rattle.std.specs.Prelude.{◌≡◌, ℕ, ◌*◌, Bool, true, false, ℤ, pos, List, [], ◌∷◌, refl}
+use Rattle.std.specs.Prelude.{◌≡◌, ℕ, ◌*◌, true, false, pos, List, [], ◌∷◌, refl}
 use Rattle.cv_model.specs.declared.colour.Rgb.{Rgb}
 use Rattle.cv_model.specs.declared.colour.Rgba.{Rgba}
 use Rattle.cv_model.specs.declared.colour.Blend.TheVariants.{Normal}
-use Rattle.cv_model.specs.Positions.{Position, Rectangle}
+use Rattle.cv_model.specs.Positions.{Position}
 use Rattle.cv_model.specs.Views.{PixelGrid, centre_of, grid_of}
 use Rattle.cv_model.specs.Polygons.{is_inside}
 use Rattle.cv_model.specs.Colours.{over, merge, opaque}

@@ -7,11 +7,10 @@ ghost use Rattle.cv_model.specs.Layers.{polygon_feature, polygons_project};
 ghost use Rattle.cv_model.specs.Pictures.{strokes, colour_at, picture};
 ghost use Rattle.cv_model.specs.Rasters.{row_of};
 
-use std::alloc::Global;
-
 use cv_blend::{merge, over};
 use cv_geom::{centre, inside};
 use cv_model::{Blend, NoMemory, Picture, Point2, Polygon, Rgb, RgbList, Rgba, Symbol, View};
+use std::alloc::Global;
 
 /// What lies below all layers.
 const WHITE: Rgb = Rgb {
@@ -54,6 +53,7 @@ fn layer_pixel(polygons: &[Polygon], fill: Rgba, view: &View, p: Point2) -> Rgba
 }
 
 /// The pixel of the picture: the layer's pixel on white.
+#[tactic(auto, unfolding(cv_model::specs::Pictures::colour_at, cv_model::specs::Pictures::pixel))]
 fn colour(polygons: &[Polygon], fill: Rgb, view: &View, i: u32, j: u32) -> Rgb
     requires column { i < view.now.w }
     requires row { j < view.now.h }
@@ -64,7 +64,14 @@ fn colour(polygons: &[Polygon], fill: Rgb, view: &View, i: u32, j: u32) -> Rgb
 }
 
 /// Puts the pixels of row `j` behind the others.
-fn paint_row(pixels: &mut RgbList, polygons: &[Polygon], fill: Rgb, view: &View, j: u32) -> Result<(), NoMemory>
+#[tactic(auto, using(cv_model::proofs::Rows::row_more))]
+fn paint_row(
+    pixels: &mut RgbList,
+    polygons: &[Polygon],
+    fill: Rgb,
+    view: &View,
+    j: u32,
+) -> Result<(), NoMemory>
     requires { j < view.now.h }
     ensures { OnOk result (pixels.new ≡ pixels.old
         ++ row_of view.now.w (colour_at (polygons_project polygons.now fill) view.now) j) }
@@ -81,7 +88,13 @@ fn paint_row(pixels: &mut RgbList, polygons: &[Polygon], fill: Rgb, view: &View,
 /// The picture of one layer of polygons with an opaque fill, over white: `view.w` by `view.h` pixels, rows from the top.
 ///
 /// A pixel is filled where its centre is inside some polygon, by the parity of the edges that cross right of it.
-pub fn quick(alloc: Global, polygons: &[Polygon], fill: Rgb, view: &View) -> Result<Picture, NoMemory>
+#[tactic(auto, using(cv_model::proofs::Rows::pixels_more, cv_model::proofs::Rows::length_pixels))]
+pub fn quick(
+    alloc: Global,
+    polygons: &[Polygon],
+    fill: Rgb,
+    view: &View,
+) -> Result<Picture, NoMemory>
     ensures { IfOk result (λ made. made ≡ picture (polygons_project polygons.now fill) view.now) }
 {
     let mut pixels = RgbList::with_room(alloc, u64::from(view.w) * u64::from(view.h))?;
