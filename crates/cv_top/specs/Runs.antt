@@ -13,8 +13,8 @@ use Rattle.cv_top.specs.declared.ends.End.{End}
 use Rattle.cv_top.specs.declared.ends.End.TheVariants.{Done, NoMemory, Usage, BadData, ReadFault, WriteFault, Missing}
 use Rattle.cv_top.specs.declared.ends.Which.{Which}
 use Rattle.cv_top.specs.declared.ends.Which.TheVariants.{Layer, Output, Text}
+use Rattle.cv_top.specs.declared.ends.DataError.TheVariants.{NotBuilt}
 use Rattle.cv_top.specs.PlainText.{IsPlainText}
-use Rattle.cv_top.specs.Words.{QuickOrder}
 
 -- the file is there and is a text in the plain form
 abbrev pub IsInForm : Option (List ℕ) → Type 0
@@ -29,10 +29,10 @@ abbrev pub picture_bytes : List (List (List Position)) → Rgb → PixelGrid →
 picture_bytes polygons fill view = ppm_of (picture (polygons_project polygons fill) view)
 
 -- these are the bytes of the picture of what the file spells
-abbrev pub IsPictureOf : Option (List ℕ) → QuickOrder → List ℕ → Type 0
-IsPictureOf file order made =
-  IsSomeAnd file (λ bytes. (polygons : List (List (List Position)))
-    × IsPlainText bytes polygons × (made ≡ picture_bytes polygons order.fill order.view))
+abbrev pub IsPictureOf : Option (List ℕ) → Rgb → PixelGrid → List ℕ → Type 0
+IsPictureOf file fill view made =
+    IsSomeAnd file (λ bytes. (polygons : List (List (List Position)))
+    × IsPlainText bytes polygons × (made ≡ picture_bytes polygons fill view))
 
 -- what `quick` prints: the size of its picture
 abbrev pub image_line : PixelGrid → List ℕ
@@ -44,15 +44,16 @@ WriteCause (Layer place) write print = ⊥
 WriteCause (Output k) write print = (k ≡ 1) × write
 WriteCause Text write print = print
 
--- each end has its cause outside: the shelf's faults or misses, the tray's or the sink's faults rose
-abbrev pub HasCause : End → Type 0 → Type 0 → Type 0 → Type 0 → Type 0
-HasCause Done read miss write print = Unit {0}
-HasCause NoMemory read miss write print = Unit {0}
-HasCause Usage read miss write print = Unit {0}
-HasCause (BadData place error) read miss write print = place ≡ 0
-HasCause (ReadFault which) read miss write print = (which ≡ Layer 0) × read
-HasCause (WriteFault which) read miss write print = WriteCause which write print
-HasCause (Missing which) read miss write print = (which ≡ Layer 0) × miss
+-- what an end says is so: the words are no form, the bytes are refused, or a count of the outside rose: the shelf's
+-- faults (`read`) or misses (`miss`), the tray's faults (`write`) or the sink's (`print`)
+abbrev pub HasCause : End → (usage refused read miss write print : Type 0) → Type 0
+HasCause Done usage refused read miss write print = Unit {0}
+HasCause NoMemory usage refused read miss write print = Unit {0}
+HasCause Usage usage refused read miss write print = usage
+HasCause (BadData place error) usage refused read miss write print = (place ≡ 0) × refused
+HasCause (ReadFault which) usage refused read miss write print = (which ≡ Layer 0) × read
+HasCause (WriteFault which) usage refused read miss write print = WriteCause which write print
+HasCause (Missing which) usage refused read miss write print = (which ≡ Layer 0) × miss
 
 -- the names asked: the file's, once, but for want of memory and words that are no form
 abbrev pub AsksFor : End → List (List ℕ) → List (List ℕ) → List ℕ → Type 0
@@ -115,3 +116,11 @@ Prints (WriteFault (Layer place)) old new text = ⊥
 -- all was done, but for want of memory
 abbrev pub IsDone : End → Type 0
 IsDone end = (end ≡ Done) ⊎ (end ≡ NoMemory)
+
+-- the bytes were refused, but for want of memory
+abbrev pub IsRefused : End → Type 0
+IsRefused end = (end ≡ BadData 0 NotBuilt) ⊎ (end ≡ NoMemory)
+
+-- the file was missing, but for want of memory
+abbrev pub IsMissing : End → Type 0
+IsMissing end = (end ≡ Missing (Layer 0)) ⊎ (end ≡ NoMemory)

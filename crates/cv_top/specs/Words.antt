@@ -56,7 +56,7 @@ pub record IsQuick (words : List (List ℕ)) (order : QuickOrder) : Type 0 where
   pub colour : List ℕ
   pub extent : Rectangle
   pub spelled :
-    words
+      words
       ≡ codes "quick" ∷ order.csv ∷ order.out ∷ w ∷ h ∷ xmin ∷ ymin ∷ xmax ∷ ymax ∷ colour ∷ []
   pub extent_is : IsExtentOf xmin ymin xmax ymax extent
   pub view_is : IsViewOf w h extent order.view

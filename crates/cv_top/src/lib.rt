@@ -2,6 +2,7 @@
 #![tactic(auto)]
 
 pub mod ends;
-pub mod words;
+mod outputs;
+mod plain_text;
 
 pub use ends::{DataError, End, Which};

@@ -1,2 +1,0 @@
--- Lemmas on the words of a command.
-pub mod WordLemmas
