@@ -7,14 +7,14 @@
 //! The fakes in memory take memory for what they keep. No handles.
 #![tactic(auto)]
 
-pub mod ends;
-pub mod gates;
-pub mod memory;
-pub mod shelves;
-pub mod sinks;
-pub mod sure;
-pub mod trays;
-pub mod whole;
+mod ends;
+mod gates;
+mod memory;
+mod shelves;
+mod sinks;
+mod sure;
+mod trays;
+mod whole;
 
 pub use ends::{ReadEnd, SinkEnd, TrayEnd, Unread, Unwritten};
 pub use gates::{Gate, Open};

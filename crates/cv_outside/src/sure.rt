@@ -20,33 +20,6 @@ pub struct SureShelf {
     misses: u64,
 }
 
-impl Shelf for SureShelf {
-    ghost tells = { λ _. true };
-
-    ghost file_at = { λ s name. bytes_under s.files name };
-
-    ghost asked = { λ s. names_of s.asked.items };
-
-    ghost faults = { λ _. 0 };
-
-    ghost misses = { λ s. s.misses };
-
-    fn read(&mut self, name: &str, max: u64, into: &mut Vec<u8>) -> ReadEnd {
-        let Ok(is_there) = copy_file(&self.files, name, max, into) else {
-            return ReadEnd::NoMemory;
-        };
-        if self.note(name).is_err() {
-            into.clear();
-            return ReadEnd::NoMemory;
-        }
-        if is_there {
-            return ReadEnd::Found;
-        }
-        self.misses = self.misses.saturating_add(1);
-        ReadEnd::Absent
-    }
-}
-
 impl SureShelf {
     /// A shelf with these files, of which none was asked for.
     pub fn new(alloc: Global, files: Files) -> SureShelf
@@ -81,6 +54,33 @@ impl SureShelf {
         let name = String::from_str(self.alloc, name)?;
         self.asked.push(name)?;
         Ok(())
+    }
+}
+
+impl Shelf for SureShelf {
+    ghost tells = { λ _. true };
+
+    ghost file_at = { λ s name. bytes_under s.files name };
+
+    ghost asked = { λ s. names_of s.asked.items };
+
+    ghost faults = { λ _. 0 };
+
+    ghost misses = { λ s. s.misses };
+
+    fn read(&mut self, name: &str, max: u64, into: &mut Vec<u8>) -> ReadEnd {
+        let Ok(is_there) = copy_file(&self.files, name, max, into) else {
+            return ReadEnd::NoMemory;
+        };
+        if self.note(name).is_err() {
+            into.clear();
+            return ReadEnd::NoMemory;
+        }
+        if is_there {
+            return ReadEnd::Found;
+        }
+        self.misses = self.misses.saturating_add(1);
+        ReadEnd::Absent
     }
 }
 

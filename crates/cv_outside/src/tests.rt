@@ -31,17 +31,15 @@ fn bytes_of<'a>(files: &'a Files, name: &str) -> &'a [u8] {
 fn a_shelf_fails_at_the_listed_read(rt: HostRuntime) -> Result<(), Fail> {
     let alloc = rt.alloc();
     let reads = [
-        ("a", 9, ReadEnd::Found, "abc"),
-        ("b", 9, ReadEnd::Absent, ""),
-        ("a", 1, ReadEnd::Found, "ab"),
+        (1, "a", 9, ReadEnd::Found, "abc"),
+        (2, "b", 9, ReadEnd::Absent, ""),
+        (3, "a", 1, ReadEnd::Found, "ab"),
     ];
     for failing in 0..4 {
         let listed = Vec::from_slice(alloc, &[failing])?;
         let mut shelf = MemShelf::new(alloc, one_file(alloc)?, listed);
         let mut into = Vec::from_slice(alloc, b"old")?;
-        let mut call = 0;
-        for (name, max, end, bytes) in reads {
-            call += 1;
+        for (call, name, max, end, bytes) in reads {
             let (end, bytes) = if call == failing {
                 (ReadEnd::Failed, "")
             } else {
@@ -63,9 +61,7 @@ fn a_tray_fails_at_the_listed_write(rt: HostRuntime) -> Result<(), Fail> {
     for (failing, first, second) in [(0, "x", "yz"), (1, "abc", "yz"), (2, "x", "-")] {
         let listed = Vec::from_slice(alloc, &[failing])?;
         let mut tray = MemTray::new(alloc, one_file(alloc)?, listed);
-        let mut call = 0;
-        for (name, bytes) in [("a", "x"), ("b", "yz")] {
-            call += 1;
+        for (call, name, bytes) in [(1, "a", "x"), (2, "b", "yz")] {
             let end = keep(&mut tray, name, bytes.as_bytes());
             let want = if call == failing {
                 TrayEnd::Failed
