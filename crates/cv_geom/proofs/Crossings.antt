@@ -1,5 +1,5 @@
 -- The edges of a ring, and the parity of crossings.
-use Rattle.std.proofs.Common.{◌≡◌, ℕ, ◌-◌, suc, List, [], ◌∷◌, length, slice_get, Some, refl, ap, sym, arith}
+use Rattle.std.proofs.Common.{◌≡◌, ◌-◌, suc, List, [], ◌∷◌, length, slice_get, Some, refl, ap, arith}
 use Rattle.cv_model.specs.Positions.{Position}
 use Rattle.cv_model.specs.Polygons.{last_of, edges_from, edges}
 

@@ -2,4 +2,4 @@
 pub mod Products
 pub mod Crossings
 pub mod Places
-pub mod Ranges
+pub mod Causes

@@ -1,9 +1,9 @@
 -- The view of an extent, and why there is none.
 use Rattle.std.specs.Prelude.{ℕ, ◌≡◌, ◌*◌, ◌<◌, ◌≤◌, nat_le, ℤ, pos, negsuc, ◌+ℤ◌, ◌-ℤ◌, ◌*ℤ◌, ◌<ℤ◌, ◌≤ℤ◌, int_lt, int_le, Bool, ◌&&◌, if◌then◌else◌, ◌⊎◌, Result, Ok, Err}
-use Rattle.cv_model.specs.Positions.{Rectangle, IsDoubled}
+use Rattle.cv_model.specs.Positions.{Rectangle}
 use Rattle.cv_model.specs.Views.{PixelGrid, grid_of}
-use Rattle.cv_geom.specs.declared.frames.ViewError.{ViewError}
-use Rattle.cv_geom.specs.declared.frames.ViewError.TheVariants.{Size, Empty, Range}
+use Rattle.cv_geom.specs.declared.views.ViewError.{ViewError}
+use Rattle.cv_geom.specs.declared.views.ViewError.TheVariants.{Size, Empty, Range}
 
 -- sides of 1 to 4,096 pixels, and at most 2,097,152 pixels
 abbrev pub is_size : ℕ → ℕ → Bool
@@ -41,18 +41,26 @@ view_of e w h =
     then (if is_spread e then kept (grid_of e w h) else Err Empty)
     else Err Size
 
+-- sides of 1 to 4,096 pixels, and at most 2,097,152 pixels
+abbrev pub IsSize : ℕ → ℕ → Type 0
+IsSize w h = (1 ≤ w) × (w ≤ 4096) × (1 ≤ h) × (h ≤ 4096) × (w * h ≤ 2097152)
+
 -- a side is 0 or above 4,096 pixels, or there are more than 2,097,152 pixels
 abbrev pub IsNoSize : ℕ → ℕ → Type 0
 IsNoSize w h = (w ≡ 0) ⊎ (h ≡ 0) ⊎ (4096 < w) ⊎ (4096 < h) ⊎ (2097152 < w * h)
 
+-- an extent has a width and a height
+abbrev pub IsSpread : Rectangle → Type 0
+IsSpread e = (e.xmin <ℤ e.xmax) × (e.ymin <ℤ e.ymax)
+
 -- an extent has no width or no height
-abbrev pub IsNoArea : Rectangle → Type 0
-IsNoArea e = (e.xmax ≤ℤ e.xmin) ⊎ (e.ymax ≤ℤ e.ymin)
+abbrev pub IsEmpty : Rectangle → Type 0
+IsEmpty e = (e.xmax ≤ℤ e.xmin) ⊎ (e.ymax ≤ℤ e.ymin)
 
 -- a number is no coordinate in doubled millionths
 abbrev pub IsFar : ℤ → Type 0
 IsFar z = (z <ℤ negsuc 3999999999999999) ⊎ (pos 4000000000000000 <ℤ z)
 
--- an edge of a grid is out of range
-abbrev pub IsOutOfRange : PixelGrid → Type 0
-IsOutOfRange v = IsFar v.lx2 ⊎ IsFar (right_of v) ⊎ IsFar v.ty2 ⊎ IsFar (bottom_of v)
+-- an edge of a grid is out of range: the left, the right, the top or the bottom one
+abbrev pub LeavesRange : PixelGrid → Type 0
+LeavesRange v = (IsFar v.lx2 ⊎ IsFar (right_of v)) ⊎ (IsFar v.ty2 ⊎ IsFar (bottom_of v))

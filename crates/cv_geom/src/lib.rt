@@ -6,9 +6,9 @@
 #![tactic(auto)]
 
 pub mod centres;
-pub mod frames;
 pub mod parity;
+pub mod views;
 
 pub use centres::centre;
-pub use frames::{ViewError, view_of};
 pub use parity::inside;
+pub use views::{ViewError, view_of};

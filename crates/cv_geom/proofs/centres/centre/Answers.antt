@@ -1,4 +1,4 @@
-use Rattle.std.proofs.Common.{◌≡◌, pos, ◌+ℤ◌, ◌-ℤ◌, ◌*ℤ◌, ◌*◌, ◌≤ℤ◌, to_z, of_z, w64, FitsSigned, refl, arith, rules}
+use Rattle.std.proofs.Common.{w64, FitsSigned, arith, rules}
 use Rattle.std.proofs.lemmas.Int.{ints, to_z-of_z}
 use Rattle.cv_geom.proofs.Places.{same_place}
 use Rattle.cv_geom.proofs.centres.centre.Goals as goal

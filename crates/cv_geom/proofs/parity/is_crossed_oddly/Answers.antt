@@ -1,4 +1,4 @@
-use Rattle.std.proofs.Common.{◌≡◌, sym, arith}
+use Rattle.std.proofs.Common.{sym, arith}
 use Rattle.cv_geom.proofs.Crossings.{edges-last}
 use Rattle.cv_geom.proofs.parity.is_crossed_oddly.Goals as goal
 

@@ -3,7 +3,7 @@
 ghost use Rattle.std.specs.Prelude.{◌≡◌, ◌↔◌, ◌+◌, ◌*◌, ◌≤◌, ◌<◌, ◌^◌, max, pos, negsuc, ◌+ℤ◌, ◌-ℤ◌, ◌*ℤ◌, ◌≤ℤ◌, ◌&&◌};
 ghost use Rattle.cv_model.specs.Positions.{IsCoordinate, IsDoubled};
 ghost use Rattle.cv_model.specs.Views.{IsView, ceiling, rise, pixel_side, grid_of};
-ghost use Rattle.cv_geom.specs.Views.{is_size, is_spread, is_doubled, is_in_range, kept, view_of, IsNoSize, IsNoArea, IsOutOfRange};
+ghost use Rattle.cv_geom.specs.Views.{is_size, is_spread, is_doubled, is_in_range, kept, view_of, IsSize, IsNoSize, IsSpread, IsEmpty, LeavesRange};
 
 use cv_model::{Extent, View};
 
@@ -21,6 +21,10 @@ pub enum ViewError {
 /// The view of `w` by `h` square pixels with an extent in its middle, whose pixels are as small as the extent allows.
 pub fn view_of(extent: Extent, w: u32, h: u32) -> Result<View, ViewError>
     ensures answer { result ≡ view_of extent w h }
+    ensures size { (result ≡ Err ViewError.Size) ↔ IsNoSize w h }
+    ensures empty { (result ≡ Err ViewError.Empty) ↔ (IsSize w h × IsEmpty extent) }
+    ensures range { (result ≡ Err ViewError.Range)
+        ↔ (IsSize w h × (IsSpread extent × LeavesRange (grid_of extent w h))) }
 {
     if !is_size(w, h) {
         return Err(ViewError::Size);

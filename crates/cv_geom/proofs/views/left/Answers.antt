@@ -1,6 +1,6 @@
 use Rattle.std.proofs.Common.{arith}
 use Rattle.std.proofs.lemmas.Int.{ints}
-use Rattle.cv_geom.proofs.frames.left.Goals as goal
+use Rattle.cv_geom.proofs.views.left.Goals as goal
 
 pub returns : goal.returns
 returns c =

@@ -1,7 +1,7 @@
-use Rattle.std.proofs.Common.{◌≡◌, arith, rules, w64, FitsSigned}
+use Rattle.std.proofs.Common.{arith, rules, w64, FitsSigned}
 use Rattle.std.specs.Int.{w128}
 use Rattle.std.proofs.lemmas.Int.{to_z-of_z, to_z_pos}
-use Rattle.cv_geom.proofs.frames.laid_round.Goals as goal
+use Rattle.cv_geom.proofs.views.laid_round.Goals as goal
 
 pub returns : goal.returns
 returns c =

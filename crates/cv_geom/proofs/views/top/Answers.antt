@@ -1,6 +1,6 @@
 use Rattle.std.proofs.Common.{arith}
 use Rattle.std.proofs.lemmas.Int.{ints}
-use Rattle.cv_geom.proofs.frames.top.Goals as goal
+use Rattle.cv_geom.proofs.views.top.Goals as goal
 
 pub returns : goal.returns
 returns c =
