@@ -8,3 +8,7 @@ pub mod Bodies
 pub mod ReadIsSpelled
 -- what is spelled so is read
 pub mod SpelledIsRead
+-- both laws for a whole text
+pub mod Laws
+-- the bytes that stand in no plain polygon
+pub mod PlainBytes

@@ -1,5 +1,5 @@
 -- The reader, said on lists: each function gives a value and the text behind it, and has the name of its code.
-use Rattle.std.specs.Prelude.{ℕ, zero, suc, ◌+◌, ◌*◌, ◌-◌, ◌^◌, ◌==◌, Bool, true, false, if◌then◌else◌, ℤ, List, [], ◌∷◌, length, Option, Some, None, option_and_then, option_map}
+use Rattle.std.specs.Prelude.{ℕ, zero, suc, ◌+◌, ◌*◌, ◌-◌, ◌^◌, ◌==◌, Bool, true, false, if◌then◌else◌, ℤ, List, [], ◌∷◌, length, Option, Some, None, option_and_then, option_map, codes}
 use Rattle.std.specs.Option.{option_or}
 use Rattle.std.specs.Char.{is_ascii_digit}
 use Rattle.std.specs.Int.Digits.{number_from_digits, number_from_digits_after}
@@ -93,3 +93,16 @@ rings_at (suc room) text = do
   p ← point_at text
   next ← next_at p.1
   placed p.0 next.0 next.1 (rings_at room next.1)
+
+-- a text that is a number from its first byte to its last
+abbrev pub if_at_end : ℤ × List ℕ → Option ℤ
+if_at_end r = if length r.1 == 0 then Some r.0 else None
+
+unfoldable pub whole_number_at : List ℕ → Option ℤ
+whole_number_at text = option_and_then if_at_end (number_at text)
+
+-- a text that is a polygon from its first byte to its last
+unfoldable pub polygon_at : List ℕ → Option (List (List Position))
+polygon_at text = do
+  rest ← behind (codes "POLYGON((") text
+  option_map (λ r. r.0 ∷ r.1) (rings_at 1000000 rest)

@@ -3,7 +3,7 @@
 ghost use Rattle.std.specs.Prelude.{◌≡◌, ◌≤◌, ◌<◌, ◌+◌, ◌-◌, ◌*◌, ◌^◌, option_map, IfSome, length};
 ghost use Rattle.cv_model.specs.Positions.{IsCoordinate};
 ghost use Rattle.cv_wkt.specs.PlainForm.{signed};
-ghost use Rattle.cv_wkt.specs.Reading.{behind, digits_at, tally, sign_at, whole_at, fraction_at, number_at};
+ghost use Rattle.cv_wkt.specs.Reading.{behind, digits_at, tally, sign_at, whole_at, fraction_at, number_at, whole_number_at};
 
 /// Digits that were read: their number, how many they are, and the text behind them.
 #[derive(Clone, Copy, Debug)]
@@ -116,4 +116,14 @@ pub(crate) fn number(text: &[u8]) -> Option<(i64, &[u8])>
     let whole = whole(start.1)?;
     let fraction = fraction(whole.1)?;
     Some((signed(start.0, whole.0 + fraction.0), fraction.1))
+}
+
+/// A text that is a number from its first byte to its last, in millionths.
+#[tactic(auto, unfolding(crate::specs::Reading::whole_number_at))]
+pub(crate) fn whole_number(text: &[u8]) -> Option<i64>
+    ensures read { result ≡ whole_number_at text.now }
+    ensures range { IfSome result (λ z. IsCoordinate z) }
+{
+    let found = number(text)?;
+    found.1.is_empty().then_some(found.0)
 }

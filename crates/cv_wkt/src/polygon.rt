@@ -1,11 +1,14 @@
 //! Points, rings and polygons.
 
 ghost use Rattle.std.specs.Prelude.{◌≡◌, ◌++◌, ◌∷◌, [], option_map, OnOk, IfOk};
-ghost use Rattle.cv_wkt.specs.Reading.{point_at, next_at, rings_at};
+ghost use Rattle.cv_wkt.specs.Reading.{point_at, next_at, rings_at, polygon_at};
 
 use crate::number::{behind, number};
 use cv_model::{NoMemory, Point, Polygon, Sequence};
 use std::alloc::Global;
+
+/// The most points that a polygon has.
+const MOST_POINTS: u64 = 1_000_000;
 
 /// What comes behind a point.
 #[derive(Clone, Copy, Debug)]
@@ -54,7 +57,7 @@ fn append<T: Drop>(list: &mut Sequence<T>, item: T) -> Result<(), NoMemory>
 }
 
 /// The rings of a text that begins within the first of them, if they have no more points than there is room for.
-pub(crate) fn rings(alloc: Global, text: &[u8], room: u64) -> Result<Option<Polygon>, NoMemory>
+fn rings(alloc: Global, text: &[u8], room: u64) -> Result<Option<Polygon>, NoMemory>
     ensures { IfOk result (λ o. o ≡ option_map (λ r. r.0 ∷ r.1) (rings_at room text.now)) }
 {
     let mut rings = Sequence::new(alloc);
@@ -85,4 +88,15 @@ pub(crate) fn rings(alloc: Global, text: &[u8], room: u64) -> Result<Option<Poly
         }
     }
     Ok(None)
+}
+
+/// A text that is a polygon from its first byte to its last.
+#[tactic(auto, unfolding(crate::specs::Reading::polygon_at))]
+pub(crate) fn whole_polygon(alloc: Global, text: &[u8]) -> Result<Option<Polygon>, NoMemory>
+    ensures { IfOk result (λ o. o ≡ polygon_at text.now) }
+{
+    match behind(text, b"POLYGON((") {
+        Some(rest) => rings(alloc, rest, MOST_POINTS),
+        None => Ok(None),
+    }
 }
