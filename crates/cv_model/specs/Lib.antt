@@ -3,6 +3,8 @@ pub mod Rounding
 pub mod Positions
 pub mod Views
 pub mod Polygons
+pub mod Pens
+pub mod Markers
 pub mod Colours
 pub mod Layers
 pub mod Rasters

@@ -1,7 +1,7 @@
 //! The plain types of the map and the definitions that all contracts cite.
 //!
 //! Contract: each type keeps what its definition says, and is seen as a list, a number or a record of its parts.
-//! Definitions: `Positions`, `Views`, `Polygons`, `Colours`, `Layers`, `Rasters`, `Pictures`, in this order.
+//! Definitions: `Positions`, `Views`, `Polygons`, `Pens`, `Markers`, `Colours`, `Layers`, `Rasters`, `Pictures`, in this order.
 //! Only `push`, `with_room` and `Text::of` take memory; no handle is needed.
 #![tactic(auto)]
 
@@ -10,6 +10,7 @@ pub mod extent;
 pub mod picture;
 pub mod point;
 pub mod sequence;
+pub mod shape;
 pub mod symbol;
 pub mod text;
 pub mod view;
@@ -19,6 +20,7 @@ pub use extent::Extent;
 pub use picture::{Picture, RgbList};
 pub use point::{Point, Point2, Polygon, Ring};
 pub use sequence::Sequence;
+pub use shape::Shape;
 pub use symbol::Symbol;
 pub use text::Text;
 pub use view::View;
