@@ -1,5 +1,6 @@
 -- A machine that keeps the three laws answers exactly what the grammar spells.
 use Rattle.std.proofs.Common.{◌≡◌, ◌↔◌, ℕ, zero, suc, ◌<◌, ◌≤◌, List, [], ◌∷◌, ◌++◌, length, take, Option, Some, None, Result, Ok, Err, IsSome, IsSomeAnd, option_and_then, refl, sym, ap, subst, arith, rules}
+use Rattle.std.specs.Result.{result_ok}
 use Rattle.cv_reading.specs.Machines.{Machine, ended, one_further, from_there, run, after}
 use Rattle.cv_reading.specs.Readings.{Begins, IsFirstWrong, IsAnswer, IsReading, Reads}
 
@@ -81,6 +82,28 @@ reading_of Spells text (Err n) fits = record {
 -- the theorem: the machine reads the grammar, in both directions and with the exact place
 pub is_reading : {S A V : Type 0} (m : Machine S A V) (Rest : S → List A → V → Type 0) → Reads m Rest → (w : List A) (s : S) → IsReading (Rest s) w (run m w s)
 is_reading m Rest reads w s = reading_of (Rest s) w (run m w s) (is_answer m Rest reads w s)
+
+-- what is read of a grammar is read of another that spells the same
+same_wrong : {A V : Type 0} (S T : List A → V → Type 0) (text : List A) (at : ℕ) → ((w : List A) (v : V) → S w v ↔ T w v) → IsFirstWrong S text at → IsFirstWrong T text at
+same_wrong S T text at same wrong = record {
+  refused = λ v h. wrong.refused v ((same text v).1 h);
+  within = wrong.within;
+  begins = let b = wrong.begins in (b.0, b.1, (same (take at text ++ b.0) b.1).0 b.2);
+  longest = λ n h k b. wrong.longest n h k (b.0, b.1, (same (take n text ++ b.0) b.1).1 b.2);
+}
+
+pub same_reading : {A V : Type 0} (S T : List A → V → Type 0) (text : List A) (r : Result V ℕ) → ((w : List A) (v : V) → S w v ↔ T w v) → IsReading S text r → IsReading T text r
+same_reading S T text r same reading = record {
+  value = λ v. (λ e. (same text v).0 ((reading.value v).0 e), λ h. (reading.value v).1 ((same text v).1 h));
+  place = λ at.
+      (λ e. same_wrong S T text at same ((reading.place at).0 e), λ h. (reading.place at).1 (same_wrong T S text at (λ w v. ((same w v).1, (same w v).0)) h));
+}
+
+-- the value alone, where there is one
+pub value_spelt : {A V : Type 0} (Spells : List A → V → Type 0) (text : List A) (r : Result V ℕ) → IsReading Spells text r → (v : V) → (result_ok r ≡ Some v) ↔ Spells text v
+value_spelt Spells text (Ok u) reading v =
+    (λ e. let same : u ≡ v = cc in (reading.value v).0 (ap Ok same), λ h. let same = (reading.value v).1 h in cc)
+value_spelt Spells text (Err at) reading v = (λ e. absurd (cc), λ h. let same = (reading.value v).1 h in absurd (cc))
 
 -- ---- fronts
 
