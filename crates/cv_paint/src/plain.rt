@@ -77,10 +77,7 @@ fn paint_row(
         ++ row_of view.now.w (colour_at (polygons_project polygons.now fill) view.now) j) }
 {
     for i in 0..view.w {
-        match pixels.push(colour(polygons, fill, view, i, j)) {
-            Ok(()) => {}
-            Err(refused) => return Err(refused.1),
-        }
+        pixels.put(colour(polygons, fill, view, i, j))?;
     }
     Ok(())
 }

@@ -1,10 +1,14 @@
 -- The plain form of a delimited text: the header `wkt`, and a quoted polygon a line.
-use Rattle.std.specs.Prelude.{◌≡◌, ℕ, ◌≤◌, List, [], ◌∷◌, ◌++◌, length, sum_by}
+use Rattle.std.specs.Prelude.{◌≡◌, ◌≢◌, ℕ, ◌≤◌, List, [], ◌∷◌, ◌++◌, All, length, sum_by}
 use Rattle.std.specs.List.{flat_map, AllZip}
 use Rattle.cv_model.specs.Positions.{Position}
 use Rattle.cv_wkt.specs.PlainForm.{IsPlainPolygon, points_of}
 
--- a line: a quote, the text of a polygon, a quote and a line feed
+-- no byte of the text is a quote
+abbrev pub HasNoQuote : List ℕ → Type 0
+HasNoQuote text = All (λ byte. byte ≢ 34) text
+
+-- a line: a quote, a text, a quote and a line feed
 abbrev pub line : List ℕ → List ℕ
 line text = 34 ∷ text ++ 34 ∷ 10 ∷ []
 

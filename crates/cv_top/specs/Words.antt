@@ -45,6 +45,13 @@ pub record IsViewOf (w h : List ℕ) (e : Rectangle) (view : PixelGrid) : Type 0
   pub height : IsCount h view.h
   pub gives : view_of e view.w view.h ≡ Ok view
 
+-- seven words are a size, an extent and a colour, which give the view and the fill
+pub record IsPlan (w h xmin ymin xmax ymax colour : List ℕ) (view : PixelGrid) (fill : Rgb) : Type 0 where
+  pub extent : Rectangle
+  pub extent_is : IsExtentOf xmin ymin xmax ymax extent
+  pub view_is : IsViewOf w h extent view
+  pub fill_is : IsColour colour fill
+
 -- the words are `quick` and the nine words of this order
 pub record IsQuick (words : List (List ℕ)) (order : QuickOrder) : Type 0 where
   pub w : List ℕ
@@ -54,13 +61,10 @@ pub record IsQuick (words : List (List ℕ)) (order : QuickOrder) : Type 0 where
   pub xmax : List ℕ
   pub ymax : List ℕ
   pub colour : List ℕ
-  pub extent : Rectangle
   pub spelled :
       words
       ≡ codes "quick" ∷ order.csv ∷ order.out ∷ w ∷ h ∷ xmin ∷ ymin ∷ xmax ∷ ymax ∷ colour ∷ []
-  pub extent_is : IsExtentOf xmin ymin xmax ymax extent
-  pub view_is : IsViewOf w h extent order.view
-  pub fill_is : IsColour colour order.fill
+  pub plan : IsPlan w h xmin ymin xmax ymax colour order.view order.fill
 
 -- the words are no form of a command
 abbrev pub IsNoForm : List (List ℕ) → Type 0

@@ -5,16 +5,14 @@ ghost use Rattle.cv_outside.specs.Counts.{Rose};
 ghost use Rattle.cv_top.specs.PlainText.{most_bytes};
 ghost use Rattle.cv_top.specs.Runs.{picture_bytes, IsPictureOf, image_line, HasCause, AsksFor, FileWas, FilesStay, OutputIs, Prints};
 
-use std::alloc::Global;
-
-use cv_image::ppm;
-use cv_model::{NoMemory, Polygon, Rgb, View};
-use cv_outside::{Shelf, Sink, Tray, Unread, read_file};
-
 use crate::ends::{DataError, End, Which};
 use crate::outputs::{image_line, write_outputs};
 use crate::plain_text::{MOST_BYTES, plain_text};
 use crate::words::QuickWords;
+use cv_image::ppm;
+use cv_model::{NoMemory, Polygon, Rgb, View};
+use cv_outside::{Shelf, Sink, Tray, Unread, read_file};
+use std::alloc::Global;
 
 /// The bytes of the picture of these polygons.
 fn picture_bytes(
@@ -46,7 +44,7 @@ fn paint_file<T: Tray, O: Sink>(
         → FilesStay result (T.file_at tray.old) (T.file_at tray.new) order.now.out.now }
     ensures output { IsTrue (T.tells tray.old)
         → OutputIs result (IsPictureOf (Some bytes.now) order.now.fill order.now.view)
-            (T.file_at tray.old order.now.out.now) (T.file_at tray.new order.now.out.now) }
+        (T.file_at tray.old order.now.out.now) (T.file_at tray.new order.now.out.now) }
     ensures text { IsTrue (O.tells out.old)
         → Prints result (O.taken out.old) (O.taken out.new) (image_line order.now.view) }
 {
@@ -83,7 +81,7 @@ pub(crate) fn quick<F: Shelf, T: Tray, O: Sink>(
         → FilesStay result (T.file_at tray.old) (T.file_at tray.new) order.now.out.now }
     ensures output { IsTrue (F.tells shelf.old) → IsTrue (T.tells tray.old)
         → OutputIs result (IsPictureOf (F.file_at shelf.old order.now.csv.now) order.now.fill order.now.view)
-            (T.file_at tray.old order.now.out.now) (T.file_at tray.new order.now.out.now) }
+        (T.file_at tray.old order.now.out.now) (T.file_at tray.new order.now.out.now) }
     ensures text { IsTrue (O.tells out.old)
         → Prints result (O.taken out.old) (O.taken out.new) (image_line order.now.view) }
 {

@@ -10,7 +10,7 @@ pub loop-i-preserved : goal.loop-i-preserved
 loop-i-preserved c =
     let f = colour_at (polygons_project c.args.polygons.now c.args.fill) c.args.view.now in
     let row = row_of c.loop-i.i f c.args.j in
-    c.in-Ok.ensures.ok ∙ ap (λ pixels. pixels ++ c.colour.result ∷ []) c.loop-i.invariant
+    c.in_ok-put.ensures.ok ∙ ap (λ pixels. pixels ++ c.colour.result ∷ []) c.loop-i.invariant
     ∙ ap (λ pixel. (c.args.pixels.now ++ row) ++ pixel ∷ []) c.colour.ensures
     ∙ append_assoc c.args.pixels.now row (f c.loop-i.i c.args.j ∷ [])
     ∙ ap (λ more. c.args.pixels.now ++ more) (sym (row_more c.loop-i.i f c.args.j))
