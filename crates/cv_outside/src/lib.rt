@@ -3,7 +3,7 @@
 //! Contract: a call that fails says so only where its device's count of faults rose, and an absent
 //! file is answered only where the count of misses rose. A device that tells its contents says what
 //! each call did to them; one that doesn't keeps the counts alone.
-//! Definitions: `Counts`, `Reads`, `Writes`, `Pieces` and `Files` of this crate.
+//! Definitions: `Counts`, `Reads`, `Writes`, `Pieces`, `Whole` and `Files` of this crate.
 //! The fakes in memory take memory for what they keep. No handles.
 #![tactic(auto)]
 

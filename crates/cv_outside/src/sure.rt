@@ -1,5 +1,5 @@
 //! Devices in memory that never fail.
-ghost use Rattle.std.specs.Prelude.{◌≡◌, ◌≤◌, ◌<◌, ◌+◌, ◌++◌, ◌∷◌, [], ℕ, List, None, Some, true, map, length, take, option_map, string_bytes, IsTrue, OnOk, OnErr, MatchResult, MatchBool};
+ghost use Rattle.std.specs.Prelude.{◌≡◌, ◌≤◌, ◌+◌, ◌++◌, ◌∷◌, [], ℕ, List, true, length, take, option_map, IsTrue, OnOk, OnErr, MatchResult, MatchBool};
 ghost use Rattle.cv_outside.specs.Files.{bytes_under, names_of};
 ghost use Rattle.cv_outside.specs.Reads.{SameFiles};
 ghost use Rattle.cv_outside.specs.Writes.{OthersStay};
@@ -84,7 +84,8 @@ impl Shelf for SureShelf {
     }
 }
 
-// Puts the first `max + 1` bytes of a file in the place of what `into` held, and says whether the file is there.
+// Puts the first `max + 1` bytes of a file in the place of what `into` held, and says whether the
+// file is there.
 fn copy_file(files: &Files, name: &str, max: u64, into: &mut Vec<u8>) -> Result<bool, AllocError>
     ensures found { MatchResult result
         (λ is_there. MatchBool is_there
