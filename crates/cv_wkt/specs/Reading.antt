@@ -9,6 +9,7 @@ use Rattle.cv_wkt.specs.PlainForm.{signed}
 use Rattle.cv_wkt.specs.declared.polygon.Next.{Next}
 use Rattle.cv_wkt.specs.declared.polygon.Next.TheVariants.{Point, Ring, End}
 
+-- one part, and then what follows from it
 infixl 10 ◌>>=◌
 abbrev pub ◌>>=◌ : {A B : Type 0} → Option A → (A → Option B) → Option B
 o >>= f = option_and_then f o
@@ -23,7 +24,7 @@ behind (f ∷ front) (b ∷ text) = if b == f then behind front text else None
 abbrev pub with_digit : ℕ → List ℕ × List ℕ → List ℕ × List ℕ
 with_digit d r = (d ∷ r.0, r.1)
 
--- the digits at the front of a text, of which there are at most as many as there is room for
+-- the digits at the front of a text, at most as many as there is room for
 abbrev pub digits_at : ℕ → List ℕ → List ℕ × List ℕ
 digits_at zero text = ([], text)
 digits_at (suc room) [] = ([], [])
@@ -34,7 +35,7 @@ digits_at (suc room) (b ∷ text) =
 abbrev pub tally : ℕ → ℕ → List ℕ × List ℕ → ℕ × ℕ × List ℕ
 tally value count r = (number_from_digits_after 10 value r.0, count + length r.0, r.1)
 
--- the sign
+-- whether a minus stands first
 abbrev pub after_sign : List ℕ → Option (List ℕ) → Bool × List ℕ
 after_sign text None = (false, text)
 after_sign text (Some rest) = (true, rest)
@@ -42,7 +43,7 @@ after_sign text (Some rest) = (true, rest)
 abbrev pub sign_at : List ℕ → Bool × List ℕ
 sign_at text = after_sign text (behind (45 ∷ []) text)
 
--- one or more digits as a number of a given scale
+-- one or more digits as a number, by a scale for how many they are
 abbrev pub scaled : (ℕ → ℕ) → List ℕ × List ℕ → Option (ℕ × List ℕ)
 scaled scale ([], rest) = None
 scaled scale (d ∷ ds, rest) = Some (number_from_digits 10 (d ∷ ds) * scale (length (d ∷ ds)), rest)
@@ -66,7 +67,7 @@ number_at text = do
   fraction ← fraction_at whole.1
   Some (signed (sign_at text).0 (whole.0 + fraction.0), fraction.1)
 
--- a point
+-- two numbers with a space between them
 unfoldable pub point_at : List ℕ → Option (Position × List ℕ)
 point_at text = do
   x ← number_at text

@@ -39,6 +39,8 @@ pub fn plain_polygon(alloc: Global, text: &[u8]) -> Result<Option<Polygon>, NoMe
 }
 
 /// How many points the rings of a polygon have together.
+///
+/// A polygon that `plain_polygon` read has far fewer than 2^64.
 pub fn points(polygon: &Polygon) -> u64
     requires { points_of polygon.now < 2 ^ 64 }
     ensures { result ≡ points_of polygon.now }
