@@ -1,13 +1,13 @@
 -- Both laws for a whole text.
-use Rattle.std.proofs.Common.{◌≡◌, ℕ, ◌+◌, ◌≤◌, ◌==◌, true, false, cond, nat_eq, ℤ, List, [], ◌∷◌, ◌++◌, length, map, codes, Option, Some, None, Result, Ok, Err, IfSome, IfOk, option_and_then, option_map, refl, arith, ap, subst, ◌∙◌, sym, append-nil}
+use Rattle.std.proofs.Common.{◌≡◌, ℕ, ◌+◌, ◌≤◌, cond, ℤ, List, [], ◌∷◌, ◌++◌, length, map, codes, Option, Some, None, Result, Ok, Err, IfSome, IfOk, option_and_then, option_map, refl, arith, ap, subst, ◌∙◌, sym, append-nil}
 use Rattle.std.proofs.lemmas.Bool.{ne_eqb}
 use Rattle.std.proofs.lemmas.List.{length-map}
 use Rattle.std.proofs.lemmas.List.Sums.{sum_by-cons}
 use Rattle.std.proofs.lemmas.Option.{option_and_then_some, none-some}
 use Rattle.cv_model.specs.Positions.{Position}
-use Rattle.cv_wkt.specs.PlainForm.{number, worth, IsNumberInForm, PlainPoint, position, IsOneOrMore, IsPointInForm, IsPolygonInForm, polygon, points_of, IsPlainNumber, IsPlainPolygon}
-use Rattle.cv_wkt.specs.Reading.{behind, number_at, if_at_end, whole_number_at, rings_at, polygon_at}
-use Rattle.cv_wkt.proofs.Bodies.{body, polygon_is}
+use Rattle.cv_wkt.specs.PlainForm.{number, worth, IsNumberInForm, PlainPoint, position, IsPolygonInForm, polygon, points_of, IsPlainNumber, IsPlainPolygon}
+use Rattle.cv_wkt.specs.Reading.{Rings, behind, number_at, if_at_end, whole_number_at, rings_at, polygon_at}
+use Rattle.cv_wkt.proofs.Bodies.{polygon_is}
 use Rattle.cv_wkt.proofs.ReadIsSpelled.{Reads, behind_reads, number_reads, RingsRead, rings_read}
 use Rattle.cv_wkt.proofs.SpelledIsRead.{number_read, rings_spelled}
 
@@ -31,7 +31,7 @@ number_only text z h =
     ∙ ap (option_and_then if_at_end) (number_read h.tree [] h.in_form (record { no_digit = refl; no_point = refl }))
     ∙ ap Some (sym h.means)
 
-rings_found : (text rest : List ℕ) (o : Option (List Position × List (List Position))) (rings : List (List Position)) → text ≡ codes "POLYGON((" ++ rest → ((r : List Position) (others : List (List Position)) → o ≡ Some (r, others) → RingsRead 1000000 rest r others) → option_map (λ r. r.0 ∷ r.1) o ≡ Some rings → IsPlainPolygon text rings
+rings_found : (text rest : List ℕ) (o : Option Rings) (rings : List (List Position)) → text ≡ codes "POLYGON((" ++ rest → ((r : List Position) (others : List (List Position)) → o ≡ Some (r, others) → RingsRead 1000000 rest r others) → option_map (λ r. r.0 ∷ r.1) o ≡ Some rings → IsPlainPolygon text rings
 rings_found text rest None rings e a h = cc
 rings_found text rest (Some (r, others)) rings e a h =
     let same : r ∷ others ≡ rings = cc in

@@ -1,10 +1,9 @@
 -- No plain polygon has a line feed (10) or a quote (34).
-use Rattle.std.proofs.Common.{◌≡◌, ◌≢◌, ℕ, ◌+◌, ◌<◌, Bool, true, false, List, [], ◌∷◌, ◌++◌, length, map, codes, refl, arith, subst, sym}
+use Rattle.std.proofs.Common.{◌≢◌, ℕ, ◌+◌, ◌<◌, Bool, true, false, List, [], ◌∷◌, ◌++◌, map, codes, refl, arith, subst, sym}
 use Rattle.std.specs.List.{All, AllByRecursion, Contains, join_with_byte}
-use Rattle.std.specs.Int.Digits.{AllBelowBase}
 use Rattle.std.proofs.lemmas.List.Elements.{All-from_recursion, All-contains}
 use Rattle.cv_model.specs.Positions.{Position}
-use Rattle.cv_wkt.specs.PlainForm.{PlainNumber, IsNumberInForm, digits, sign, fraction, number, PlainPoint, IsPointInForm, point, ring, IsOneOrMore, group, polygon, IsPlainPolygon}
+use Rattle.cv_wkt.specs.PlainForm.{PlainNumber, digits, sign, fraction, number, PlainPoint, point, ring, group, IsPlainPolygon}
 
 -- a byte that is neither a line feed nor a quote
 pub record IsPlainByte (b : ℕ) : Type 0 where

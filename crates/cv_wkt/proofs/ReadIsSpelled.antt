@@ -1,18 +1,18 @@
 -- What is read is spelled so.
-use Rattle.std.proofs.Common.{◌≡◌, ℕ, zero, suc, ◌+◌, ◌-◌, ◌*◌, ◌^◌, ◌≤◌, ◌<◌, nat_eq, nat_le, Bool, true, false, cond, ℤ, List, [], ◌∷◌, ◌++◌, length, map, codes, sum_by, Option, Some, None, option_and_then, option_map, refl, arith, ap, subst, ◌∙◌, sym, append_assoc}
+use Rattle.std.proofs.Common.{◌≡◌, ℕ, zero, suc, ◌+◌, ◌-◌, ◌*◌, ◌^◌, ◌≤◌, nat_eq, nat_le, Bool, true, false, cond, ℤ, List, [], ◌∷◌, ◌++◌, length, map, Option, Some, None, option_map, refl, arith, ap, subst, ◌∙◌, sym, append_assoc}
 use Rattle.std.specs.Char.{is_ascii_digit}
 use Rattle.std.specs.Int.Digits.{number_from_digits, AllBelowBase}
 use Rattle.std.specs.List.{AllByRecursion}
-use Rattle.std.proofs.lemmas.Bool.{and_parts, leb-true, eqb-true, cases_Bool}
+use Rattle.std.proofs.lemmas.Bool.{and_parts, leb-true, eqb-true}
 use Rattle.std.proofs.lemmas.List.Sums.{sum_by-cons}
 use Rattle.std.proofs.lemmas.Option.{option_and_then_some}
 use Rattle.cv_model.specs.Positions.{Position}
-use Rattle.cv_wkt.specs.PlainForm.{PlainNumber, IsNumberInForm, digits, sign, fraction, number, signed, size, worth, PlainPoint, IsPointInForm, point, position, IsOneOrMore, points_of}
+use Rattle.cv_wkt.specs.PlainForm.{IsNumberInForm, digits, sign, fraction, number, signed, worth, PlainPoint, IsPointInForm, point, position, IsOneOrMore, points_of}
 use Rattle.std.specs.Option.{option_or}
-use Rattle.cv_wkt.specs.Reading.{behind, digits_at, with_digit, sign_at, after_sign, scaled, whole_at, after_point, fraction_at, number_at, point_at, next_at, placed, rings_at}
+use Rattle.cv_wkt.specs.Reading.{Rings, behind, digits_at, with_digit, sign_at, after_sign, scaled, whole_at, after_point, fraction_at, number_at, point_at, next_at, placed, rings_at}
 use Rattle.cv_wkt.specs.declared.polygon.Next.{Next}
 use Rattle.cv_wkt.specs.declared.polygon.Next.TheVariants.{Point, Ring, End}
-use Rattle.cv_wkt.proofs.Bodies.{body, body_more, rings_behind}
+use Rattle.cv_wkt.proofs.Bodies.{body, body_more}
 
 -- a tree in form, which the front of a text spells
 pub record Reads {T V : Type 0} (Form : T → Type 0) (spelling : T → List ℕ) (meaning : T → V) (text : List ℕ) (value : V) (rest : List ℕ) : Type 0 where
@@ -244,18 +244,18 @@ last_point room text p a = record {
 }
 
 -- behind a point, by what comes next
-behind_point : (room : ℕ) (text after : List ℕ) (p : Position) (x : Next) (o : Option (List Position × List (List Position))) (r : List Position) (rings : List (List Position)) → Reads IsPointInForm point position text p (bytes_of x ++ after) → ((q : List Position) (others : List (List Position)) → o ≡ Some (q, others) → RingsRead room after q others) → placed p x after o ≡ Some (r, rings) → RingsRead (suc room) text r rings
+behind_point : (room : ℕ) (text after : List ℕ) (p : Position) (x : Next) (o : Option Rings) (r : List Position) (rings : List (List Position)) → Reads IsPointInForm point position text p (bytes_of x ++ after) → ((q : List Position) (others : List (List Position)) → o ≡ Some (q, others) → RingsRead room after q others) → placed p x after o ≡ Some (r, rings) → RingsRead (suc room) text r rings
 behind_point room text after p Point None r rings a b h = cc
 behind_point room text after p Point (Some o) r rings a b h =
-    let e : ◌≡◌ {A = List Position × List (List Position)} (p ∷ o.0, o.1) (r, rings) = cc in
-    subst (λ (q : List Position × List (List Position)). RingsRead (suc room) text q.0 q.1) e (more_points room text after p o.0 o.1 a (b o.0 o.1 refl))
+    let e : ◌≡◌ {A = Rings} (p ∷ o.0, o.1) (r, rings) = cc in
+    subst (λ (q : Rings). RingsRead (suc room) text q.0 q.1) e (more_points room text after p o.0 o.1 a (b o.0 o.1 refl))
 behind_point room text after p Ring None r rings a b h = cc
 behind_point room text after p Ring (Some o) r rings a b h =
-    let e : ◌≡◌ {A = List Position × List (List Position)} (p ∷ [], o.0 ∷ o.1) (r, rings) = cc in
-    subst (λ (q : List Position × List (List Position)). RingsRead (suc room) text q.0 q.1) e (more_rings room text after p o.0 o.1 a (b o.0 o.1 refl))
+    let e : ◌≡◌ {A = Rings} (p ∷ [], o.0 ∷ o.1) (r, rings) = cc in
+    subst (λ (q : Rings). RingsRead (suc room) text q.0 q.1) e (more_rings room text after p o.0 o.1 a (b o.0 o.1 refl))
 behind_point room text [] p End o r rings a b h =
-    let e : ◌≡◌ {A = List Position × List (List Position)} (p ∷ [], []) (r, rings) = cc in
-    subst (λ (q : List Position × List (List Position)). RingsRead (suc room) text q.0 q.1) e (last_point room text p a)
+    let e : ◌≡◌ {A = Rings} (p ∷ [], []) (r, rings) = cc in
+    subst (λ (q : Rings). RingsRead (suc room) text q.0 q.1) e (last_point room text p a)
 behind_point room text (c ∷ after) p End o r rings a b h = cc
 
 -- a point as it was read, and what comes next

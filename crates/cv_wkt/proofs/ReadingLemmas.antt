@@ -1,10 +1,10 @@
 -- How a front is found, and digits are counted, byte by byte.
-use Rattle.std.proofs.Common.{◌≡◌, ℕ, zero, suc, ◌+◌, ◌-◌, ◌*◌, ◌^◌, ◌<◌, ◌≤◌, nat_eq, nat_le, Bool, true, false, cond, ◌&&◌, List, [], ◌∷◌, length, take, drop, get_or, Option, Some, None, option_map, MatchOption, Bor, refl, arith, ap, subst, ◌∙◌, sym, pow-add, add-one, drop-cons, ◌⊎◌, inl, inr}
+use Rattle.std.proofs.Common.{◌≡◌, ℕ, zero, suc, ◌+◌, ◌-◌, ◌*◌, ◌^◌, ◌<◌, ◌≤◌, nat_eq, nat_le, Bool, true, false, cond, ◌&&◌, List, [], ◌∷◌, length, take, drop, get_or, Option, Some, None, option_map, MatchOption, Bor, refl, arith, ap, ◌∙◌, sym, pow-add, drop-cons, ◌⊎◌, inl, inr}
 use Rattle.std.proofs.lemmas.Bool.{and_parts, leb-true}
 use Rattle.std.specs.Cmp.Lexicographic.{pointwise}
 use Rattle.std.specs.Char.{is_ascii_digit}
 use Rattle.std.specs.Int.Digits.{number_from_digits_after}
-use Rattle.std.proofs.lemmas.List.{drop_all}
+use Rattle.std.proofs.lemmas.List.{drop_all, take_rest}
 use Rattle.std.proofs.Math.Nat.{one-le-pow, mul-le-mul_left, mul-le-mul_right}
 use Rattle.cv_wkt.specs.Reading.{behind, digits_at, with_digit, tally}
 
@@ -67,7 +67,7 @@ small_more value count b d h e v =
     omega arith
 
 -- where nothing more is read, the tally stands
-pub tally_end : (room value count : ℕ) (text : List ℕ) → (room ≡ 0) ⊎ (digit_first text ≡ false) → tally value count (digits_at room text) ≡ (value, count, text)
+tally_end : (room value count : ℕ) (text : List ℕ) → (room ≡ 0) ⊎ (digit_first text ≡ false) → tally value count (digits_at room text) ≡ (value, count, text)
 tally_end room value count text (inl h) = ap (λ n. tally value count (digits_at n text)) h ∙ ap (λ n. (value, n, text)) (omega arith)
 tally_end room value count text (inr h) = ap (tally value count) (digits_none room text h) ∙ ap (λ n. (value, n, text)) (omega arith)
 
@@ -86,3 +86,8 @@ scaled_small value count few small =
     let one = one-le-pow (6 - count) 10 (omega arith) in
     let m = mul-le-mul_right (10 ^ (6 - count)) small in
     omega (arith, m, p, one)
+
+-- what the loop leaves, where nothing more is read
+pub counted : (room value count : ℕ) (text : List ℕ) (all : ℕ × ℕ × List ℕ) → (room - count ≡ 0) ⊎ (digit_first (drop count text) ≡ false) → tally value count (digits_at (room - count) (drop count text)) ≡ all → (value, count, take (length text - count) (drop count text)) ≡ all
+counted room value count text all stops kept =
+    ap (λ w. (value, count, w)) (take_rest text count) ∙ sym (tally_end (room - count) value count (drop count text) stops) ∙ kept

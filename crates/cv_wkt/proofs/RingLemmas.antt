@@ -2,12 +2,12 @@
 use Rattle.std.proofs.Common.{◌≡◌, ℕ, ◌+◌, ◌-◌, ◌<◌, zero, suc, List, [], ◌∷◌, ◌++◌, length, Option, Some, None, option_map, option_and_then, refl, arith, ap, ◌∙◌, sym, append_assoc, false, ◌==◌}
 use Rattle.std.proofs.lemmas.Bool.{true≢false}
 use Rattle.cv_model.specs.Positions.{Position}
-use Rattle.cv_wkt.specs.Reading.{point_at, next_at, placed, rings_at}
+use Rattle.cv_wkt.specs.Reading.{Rings, point_at, next_at, placed, rings_at}
 use Rattle.cv_wkt.specs.declared.polygon.Next.{Next}
 use Rattle.cv_wkt.specs.declared.polygon.Next.TheVariants.{Point, Ring, End}
 
 -- whole rings and the open one before what is still read
-abbrev pub joined : List (List Position) → List Position → Option (List Position × List (List Position)) → Option (List (List Position))
+abbrev pub joined : List (List Position) → List Position → Option Rings → Option (List (List Position))
 joined rings ring o = option_map (λ r. rings ++ (ring ++ r.0) ∷ r.1) o
 
 -- without room, a point or something next nothing is read
@@ -40,20 +40,20 @@ pub room_for : (room done : ℕ) → done < room → room - done ≡ suc (room -
 room_for room done h = omega arith
 
 -- equal rings before the same
-pub same_joined : (o : Option (List Position × List (List Position))) (rings rings' : List (List Position)) (ring ring' : List Position) → rings ≡ rings' → ring ≡ ring' → joined rings ring o ≡ joined rings' ring' o
+pub same_joined : (o : Option Rings) (rings rings' : List (List Position)) (ring ring' : List Position) → rings ≡ rings' → ring ≡ ring' → joined rings ring o ≡ joined rings' ring' o
 same_joined o rings rings' ring ring' e f = λ i. joined (e i) (f i) o
 
 -- where nothing is read of the rest, nothing is read of the whole
-pub nothing : (rings : List (List Position)) (ring : List Position) (o : Option (List Position × List (List Position))) (whole : Option (List (List Position))) → o ≡ None → joined rings ring o ≡ whole → None ≡ whole
+pub nothing : (rings : List (List Position)) (ring : List Position) (o : Option Rings) (whole : Option (List (List Position))) → o ≡ None → joined rings ring o ≡ whole → None ≡ whole
 nothing rings ring o whole e i = sym (ap (joined rings ring) e) ∙ i
 
 -- a point behind others in the open ring
-point_joins : (rings : List (List Position)) (ring : List Position) (p : Position) (o : Option (List Position × List (List Position))) → joined rings ring (option_map (λ r. (p ∷ r.0, r.1)) o) ≡ joined rings (ring ++ p ∷ []) o
+point_joins : (rings : List (List Position)) (ring : List Position) (p : Position) (o : Option Rings) → joined rings ring (option_map (λ r. (p ∷ r.0, r.1)) o) ≡ joined rings (ring ++ p ∷ []) o
 point_joins rings ring p None = refl
 point_joins rings ring p (Some r) = ap (λ l. Some (rings ++ l ∷ r.1)) (sym (append_assoc ring (p ∷ []) r.0))
 
 -- the last point of the open ring, which goes behind the whole rings
-ring_joins : (rings : List (List Position)) (ring : List Position) (p : Position) (o : Option (List Position × List (List Position))) → joined rings ring (option_map (λ r. (p ∷ [], r.0 ∷ r.1)) o) ≡ joined (rings ++ (ring ++ p ∷ []) ∷ []) [] o
+ring_joins : (rings : List (List Position)) (ring : List Position) (p : Position) (o : Option Rings) → joined rings ring (option_map (λ r. (p ∷ [], r.0 ∷ r.1)) o) ≡ joined (rings ++ (ring ++ p ∷ []) ∷ []) [] o
 ring_joins rings ring p None = refl
 ring_joins rings ring p (Some r) = ap Some (sym (append_assoc rings ((ring ++ p ∷ []) ∷ []) (r.0 ∷ r.1)))
 

@@ -1,14 +1,13 @@
 -- What is spelled so is read.
-use Rattle.std.proofs.Common.{◌≡◌, ℕ, zero, suc, ◌+◌, ◌-◌, ◌*◌, ◌^◌, ◌≤◌, ◌<◌, nat_eq, nat_le, Bool, true, false, cond, ℤ, List, [], ◌∷◌, ◌++◌, length, map, codes, sum_by, Option, Some, None, option_and_then, option_map, refl, arith, ap, subst, ◌∙◌, sym, append_assoc}
+use Rattle.std.proofs.Common.{◌≡◌, ℕ, zero, suc, ◌+◌, ◌-◌, ◌*◌, ◌^◌, ◌≤◌, ◌<◌, nat_le, Bool, true, false, cond, ℤ, List, [], ◌∷◌, ◌++◌, length, map, Some, None, option_and_then, refl, arith, ap, ◌∙◌, sym, append_assoc}
 use Rattle.std.specs.Char.{is_ascii_digit}
 use Rattle.std.specs.Int.Digits.{number_from_digits, AllBelowBase}
-use Rattle.std.specs.List.{AllByRecursion, join_with_byte}
+use Rattle.std.specs.List.{AllByRecursion}
 use Rattle.std.proofs.lemmas.Bool.{ne_eqb, le-leb, and_from}
 use Rattle.std.proofs.lemmas.List.Sums.{sum_by-cons}
 use Rattle.cv_model.specs.Positions.{Position}
-use Rattle.cv_wkt.specs.PlainForm.{PlainNumber, IsNumberInForm, digits, sign, fraction, number, signed, size, worth, PlainPoint, IsPointInForm, point, position, IsOneOrMore, points_of}
-use Rattle.cv_wkt.specs.Reading.{◌>>=◌, behind, digits_at, with_digit, sign_at, after_sign, scaled, whole_at, after_point, fraction_at, number_at, point_at, next_at, placed, rings_at}
-use Rattle.cv_wkt.specs.declared.polygon.Next.{Next}
+use Rattle.cv_wkt.specs.PlainForm.{PlainNumber, IsNumberInForm, digits, sign, fraction, number, signed, worth, PlainPoint, IsPointInForm, point, position, IsOneOrMore, points_of}
+use Rattle.cv_wkt.specs.Reading.{behind, digits_at, with_digit, sign_at, after_sign, scaled, whole_at, after_point, fraction_at, number_at, point_at, next_at, placed, rings_at}
 use Rattle.cv_wkt.specs.declared.polygon.Next.TheVariants.{Point, Ring, End}
 use Rattle.cv_wkt.proofs.Bodies.{body, body_more, rings_behind}
 use Rattle.cv_wkt.proofs.ReadingLemmas.{digit_first, digits_none}

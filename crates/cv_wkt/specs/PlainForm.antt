@@ -40,7 +40,9 @@ number n = sign n.negative ++ (digits n.whole ++ fraction n.fraction)
 
 -- a number without its sign, in millionths
 abbrev pub size : PlainNumber → ℕ
-size n = number_from_digits 10 n.whole * 1000000 + number_from_digits 10 n.fraction * 10 ^ (6 - length n.fraction)
+size n =
+    number_from_digits 10 n.whole * 1000000
+    + number_from_digits 10 n.fraction * 10 ^ (6 - length n.fraction)
 
 -- a size with its sign
 abbrev pub signed : Bool → ℕ → ℤ

@@ -1,4 +1,5 @@
--- The reader, said on lists: each function gives a value and the text behind it, and has the name of its code.
+-- What each part of the code reads at the front of a text: a value, and the text behind it.
+-- The clauses of private functions cite it; public ones cite the grammar alone.
 use Rattle.std.specs.Prelude.{ℕ, zero, suc, ◌+◌, ◌*◌, ◌-◌, ◌^◌, ◌==◌, Bool, true, false, if◌then◌else◌, ℤ, List, [], ◌∷◌, length, Option, Some, None, option_and_then, option_map, codes}
 use Rattle.std.specs.Option.{option_or}
 use Rattle.std.specs.Char.{is_ascii_digit}
@@ -8,6 +9,7 @@ use Rattle.cv_wkt.specs.PlainForm.{signed}
 use Rattle.cv_wkt.specs.declared.polygon.Next.{Next}
 use Rattle.cv_wkt.specs.declared.polygon.Next.TheVariants.{Point, Ring, End}
 
+-- one part, and then what follows from it
 infixl 10 ◌>>=◌
 abbrev pub ◌>>=◌ : {A B : Type 0} → Option A → (A → Option B) → Option B
 o >>= f = option_and_then f o
@@ -22,17 +24,18 @@ behind (f ∷ front) (b ∷ text) = if b == f then behind front text else None
 abbrev pub with_digit : ℕ → List ℕ × List ℕ → List ℕ × List ℕ
 with_digit d r = (d ∷ r.0, r.1)
 
--- the digits at the front of a text, of which there are at most as many as there is room for
+-- the digits at the front of a text, at most as many as there is room for
 abbrev pub digits_at : ℕ → List ℕ → List ℕ × List ℕ
 digits_at zero text = ([], text)
 digits_at (suc room) [] = ([], [])
-digits_at (suc room) (b ∷ text) = if is_ascii_digit b then with_digit (b - 48) (digits_at room text) else ([], b ∷ text)
+digits_at (suc room) (b ∷ text) =
+    if is_ascii_digit b then with_digit (b - 48) (digits_at room text) else ([], b ∷ text)
 
--- what the code keeps of digits that stand behind others: the number, how many they are, and the text behind them
+-- digits behind others: the number of them all, how many they are, and the text behind them
 abbrev pub tally : ℕ → ℕ → List ℕ × List ℕ → ℕ × ℕ × List ℕ
 tally value count r = (number_from_digits_after 10 value r.0, count + length r.0, r.1)
 
--- the sign
+-- whether a minus stands first
 abbrev pub after_sign : List ℕ → Option (List ℕ) → Bool × List ℕ
 after_sign text None = (false, text)
 after_sign text (Some rest) = (true, rest)
@@ -40,7 +43,7 @@ after_sign text (Some rest) = (true, rest)
 abbrev pub sign_at : List ℕ → Bool × List ℕ
 sign_at text = after_sign text (behind (45 ∷ []) text)
 
--- one or more digits as a number of a given scale
+-- one or more digits as a number, by a scale for how many they are
 abbrev pub scaled : (ℕ → ℕ) → List ℕ × List ℕ → Option (ℕ × List ℕ)
 scaled scale ([], rest) = None
 scaled scale (d ∷ ds, rest) = Some (number_from_digits 10 (d ∷ ds) * scale (length (d ∷ ds)), rest)
@@ -64,7 +67,7 @@ number_at text = do
   fraction ← fraction_at whole.1
   Some (signed (sign_at text).0 (whole.0 + fraction.0), fraction.1)
 
--- a point
+-- two numbers with a space between them
 unfoldable pub point_at : List ℕ → Option (Position × List ℕ)
 point_at text = do
   x ← number_at text
@@ -79,15 +82,19 @@ next_at text =
     (option_or (option_map (λ rest. (Ring, rest)) (behind (41 ∷ 44 ∷ 40 ∷ []) text))
     (option_map (λ rest. (End, rest)) (behind (41 ∷ 41 ∷ []) text)))
 
--- a point before what was read behind it: the rest of its ring, and further rings
-abbrev pub placed : Position → Next → List ℕ → Option (List Position × List (List Position)) → Option (List Position × List (List Position))
+-- the rest of a ring, and the rings behind it
+abbrev pub Rings : Type 0
+Rings = List Position × List (List Position)
+
+-- a point before what was read behind it
+abbrev pub placed : Position → Next → List ℕ → Option Rings → Option Rings
 placed p Point text more = option_map (λ r. (p ∷ r.0, r.1)) more
 placed p Ring text more = option_map (λ r. (p ∷ [], r.0 ∷ r.1)) more
 placed p End [] more = Some (p ∷ [], [])
 placed p End (b ∷ text) more = None
 
--- the rest of a ring and the rings behind it, up to the end of the text, of as many points as there is room for
-unfoldable pub rings_at : ℕ → List ℕ → Option (List Position × List (List Position))
+-- rings up to the end of the text, of no more points than there is room for
+unfoldable pub rings_at : ℕ → List ℕ → Option Rings
 rings_at zero text = None
 rings_at (suc room) text = do
   p ← point_at text

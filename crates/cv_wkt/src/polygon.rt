@@ -6,6 +6,7 @@ ghost use Rattle.cv_wkt.specs.Reading.{point_at, next_at, rings_at, polygon_at};
 use crate::number::{behind, number};
 use cv_model::{NoMemory, Point, Polygon, Sequence};
 use std::alloc::Global;
+use std::mem;
 
 /// The most points that a polygon has.
 const MOST_POINTS: u64 = 1_000_000;
@@ -56,7 +57,7 @@ fn append<T: Drop>(list: &mut Sequence<T>, item: T) -> Result<(), NoMemory>
     }
 }
 
-/// The rings of a text that begins within the first of them, if they have no more points than there is room for.
+/// The rings of a text that begins within the first of them, with at most as many points as there is room for.
 fn rings(alloc: Global, text: &[u8], room: u64) -> Result<Option<Polygon>, NoMemory>
     ensures { IfOk result (λ o. o ≡ option_map (λ r. r.0 ∷ r.1) (rings_at room text.now)) }
 {
@@ -75,8 +76,7 @@ fn rings(alloc: Global, text: &[u8], room: u64) -> Result<Option<Polygon>, NoMem
         match after.0 {
             Next::Point => {}
             Next::Ring => {
-                append(&mut rings, ring)?;
-                ring = Sequence::new(alloc);
+                append(&mut rings, mem::replace(&mut ring, Sequence::new(alloc)))?;
             }
             Next::End => {
                 if !rest.is_empty() {

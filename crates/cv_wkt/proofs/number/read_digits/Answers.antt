@@ -1,7 +1,5 @@
-use Rattle.std.proofs.Common.{false, ◌≡◌, ◌+◌, ◌-◌, ◌≤◌, length, List, get_or, drop, arith, sym, ap, ◌∙◌, ◌⊎◌, inl, inr}
-use Rattle.std.proofs.lemmas.List.{take_rest}
-use Rattle.cv_wkt.specs.Reading.{digits_at, tally}
-use Rattle.cv_wkt.proofs.ReadingLemmas.{digit_first, power_most, small_more, tally_more, tally_end, no_digit_there, no_byte_there}
+use Rattle.std.proofs.Common.{false, ◌≡◌, ◌-◌, drop, arith, sym, ◌∙◌, ◌⊎◌, inl, inr}
+use Rattle.cv_wkt.proofs.ReadingLemmas.{digit_first, small_more, tally_more, counted, no_digit_there, no_byte_there}
 use Rattle.cv_wkt.proofs.number.read_digits.Goals as goal
 use Rattle.cv_wkt.proofs.number.read_digits.Goals.{else-loop-byte-test, then-loop-byte-test+then-count-room, then-count-room-via-then-count-room, then-count-room-via-else-count-room+then-not-is_ascii_digit}
 
@@ -29,4 +27,4 @@ returns-clause-read c =
         | then-count-room-via-else-count-room+then-not-is_ascii_digit w' ↦ inr (no_digit_there n _ text i.counted (omega arith) (sym w'.is_ascii_digit.ensures.value ∙ w'.if-not-is_ascii_digit.true))
       ]
     ] in
-    ap (λ w. (c.loop-byte.value, n, w)) (take_rest text n) ∙ sym (tally_end _ _ _ _ stops) ∙ i.kept
+    counted _ c.loop-byte.value n text _ stops i.kept

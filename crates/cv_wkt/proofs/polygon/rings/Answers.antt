@@ -1,8 +1,7 @@
-use Rattle.std.proofs.Common.{◌≡◌, ◌++◌, ◌∷◌, [], option_map, Some, ap, sym, ◌∙◌, arith, ℕ, ◌-◌, ◌+◌, suc, length, List}
+use Rattle.std.proofs.Common.{◌++◌, ◌∷◌, [], Some, ap, sym, ◌∙◌, arith}
 use Rattle.std.proofs.lemmas.List.{nil_from_length}
 use Rattle.std.proofs.lemmas.Bool.{eqb-true}
-use Rattle.cv_wkt.specs.Reading.{point_at, next_at, rings_at}
-use Rattle.cv_wkt.proofs.RingLemmas.{joined, nothing, room_for, same_joined, no_room, no_point, no_next, no_end, with_point, with_ring, with_end}
+use Rattle.cv_wkt.proofs.RingLemmas.{nothing, room_for, same_joined, no_room, no_point, no_next, no_end, with_point, with_ring, with_end}
 use Rattle.cv_wkt.proofs.polygon.rings.Goals as goal
 use Rattle.cv_wkt.proofs.polygon.rings.Goals.{in-Point, in-Ring+in_ok-append-in-Ring}
 
@@ -36,7 +35,9 @@ loop-done-preserved c =
       | in-Point w ↦ same_joined _ _ _ _ _ w.rings-is (w.ring-is ∙ c.in_ok-append.ensures)
           ∙ sym (with_point _ _ _ _ _ _ _ _ _ left c.in-Some.ensures c.in-Some-what_next.ensures w.in-Point.is)
           ∙ c.loop-done.invariant
-      | in-Ring+in_ok-append-in-Ring w ↦ same_joined _ _ _ _ _ (w.rings-is ∙ w.in_ok-append-in-Ring.ensures ∙ ap (λ r. c.loop-done.rings ++ r ∷ []) c.in_ok-append.ensures) (w.ring-is ∙ w.new-ring-in-Ring.ensures)
+      | in-Ring+in_ok-append-in-Ring w ↦ same_joined _ _ _ _ _
+          (w.rings-is ∙ w.in_ok-append-in-Ring.ensures ∙ ap (λ r. c.loop-done.rings ++ r ∷ []) (w.replace.ensures.value ∙ c.in_ok-append.ensures))
+          (w.ring-is ∙ w.replace.ensures.after ∙ w.new.ensures)
           ∙ sym (with_ring _ _ _ _ _ _ _ _ _ left c.in-Some.ensures c.in-Some-what_next.ensures w.in-Ring.is)
           ∙ c.loop-done.invariant
     ]
