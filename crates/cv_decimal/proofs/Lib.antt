@@ -4,3 +4,4 @@ pub mod Numbers
 pub mod Values
 pub mod Keepings
 pub mod Scanning
+pub mod Writing

@@ -30,7 +30,7 @@ rnd_drop k t r h below =
     ap (rnd (k * t + r)) even ∙ rnd_even (k * t + r) (h * t) ∙ ap (λ z. z / (2 * (h * t))) sum
     ∙ ap (λ z. ((k + h) * t + r) / z) (sym even) ∙ floor_drop (k + h) t r (2 * h) below ∙ sym (rnd_even k h)
 
-rnd_whole : (q d : ℕ) → 0 < d → rnd (q * d) d ≡ q
+pub rnd_whole : (q d : ℕ) → 0 < d → rnd (q * d) d ≡ q
 rnd_whole q d h =
     let twice : 2 * (q * d) + d ≡ q * (2 * d) + d = omega arith in
     ap (λ z. z / (2 * d)) twice ∙ div-mul-add q (2 * d) d (omega arith)
@@ -45,7 +45,7 @@ rnd_small n d h =
 
 -- ---- powers of ten
 
-ten_pos : (k : ℕ) → 0 < 10 ^ k
+pub ten_pos : (k : ℕ) → 0 < 10 ^ k
 ten_pos k = omega (arith, one-le-pow k 10 (omega arith))
 
 ten_even : (j : ℕ) → 0 < j → (h : ℕ) × (10 ^ j ≡ 2 * h)
@@ -215,7 +215,7 @@ fixed_min minus n = by_size (cases_lt 1000000000000000 n)
 
 -- ---- a value is a coordinate
 
-fixed_fits : (minus : Bool) (n : ℕ) → n ≤ 1000000000000000 → fixed minus n ≡ Value (if minus then neg_ℤ (pos n) else pos n)
+pub fixed_fits : (minus : Bool) (n : ℕ) → n ≤ 1000000000000000 → fixed minus n ≡ Value (if minus then neg_ℤ (pos n) else pos n)
 fixed_fits minus n h =
     ap (λ t. if t then (if minus then Low else High) else Value (if minus then neg_ℤ (pos n) else pos n)) (le-ltb _ _ h)
 

@@ -6,18 +6,22 @@
 //! `read` takes no memory, goes over the text once and keeps 18 digits, whatever the lengths.
 #![tactic(auto)]
 
-ghost use Rattle.std.specs.Prelude.{◌≡◌, ◌↔◌, ℕ, [], IfOk};
+ghost use Rattle.std.specs.Prelude.{◌≡◌, ◌↔◌, ℕ, ℤ, [], IfOk, string_bytes};
+ghost use Rattle.cv_model.specs.Positions.{IsCoordinate};
 ghost use Rattle.std.specs.Result.{result_ok};
 ghost use Rattle.cv_decimal.specs.Spellings.{Spells, IsBadByte, IsInRange};
 ghost use Rattle.cv_decimal.specs.Reading.{decimal_of};
+ghost use Rattle.cv_decimal.specs.Written.{written};
 
 mod fixed;
 mod kept;
 mod mark;
 mod place;
 mod scan;
+mod written;
 
 pub use fixed::{DecimalError, Fixed};
+use std::alloc::{AllocError, Global};
 
 /// The value of a decimal, rounded half away from zero to whole millionths.
 ///
@@ -44,3 +48,26 @@ pub fn read(text: &[u8]) -> Result<Fixed, DecimalError>
         Err(at) => Err(DecimalError::BadByte(at)),
     }
 }
+
+/// The written form of a number of millionths: `-` if negative, the whole part without leading zeros,
+/// and, where the rest isn't zero, a point and the rest without trailing zeros.
+#[tactic(auto, unfolding(crate::specs::Written::written))]
+pub fn write(alloc: Global, millionths: i64) -> Result<String, AllocError>
+    ensures { IfOk result (λ text. string_bytes text ≡ written millionths) }
+{
+    let mut text = String::new(alloc);
+    if millionths < 0 {
+        text.push('-')?;
+    }
+    written::push_size(&mut text, millionths.unsigned_abs())?;
+    Ok(text)
+}
+
+/// What is written is read back: the written form of a number in the range of values spells that value.
+pub fn written_is_read()
+    ensures spelt { (z : ℤ) → IsCoordinate z → Spells (written z) (Fixed.Value z) }
+    ensures exact { (z : ℤ) → IsCoordinate z → decimal_of (written z) ≡ Some (Fixed.Value z) }
+{}
+
+#[cfg(test)]
+mod tests;
