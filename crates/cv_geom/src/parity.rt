@@ -1,9 +1,10 @@
 //! The inside of a polygon, by the parity of the edges that cross right of a position.
 
-ghost use Rattle.std.specs.Prelude.{◌≡◌, ◌==◌, ◌%◌, pos, ◌-ℤ◌, ◌*ℤ◌, int_le};
-ghost use Rattle.cv_model.specs.Positions.{IsCoordinate, IsDoubled, doubled};
+ghost use Rattle.std.specs.Prelude.{◌≡◌, ◌==◌, ◌%◌};
+ghost use Rattle.cv_model.specs.Positions.{doubled};
 ghost use Rattle.cv_model.specs.Polygons.{is_low, passes_right, is_crossed, crossings, edges, is_inside};
 
+use crate::measures::{distance, product, reach};
 use cv_model::{Point, Point2, Polygon};
 
 /// Whether a position lies inside a polygon: an odd number of the edges of all its rings crosses right of it.
@@ -60,29 +61,4 @@ fn passes_right(a: Point, b: Point, p: Point2) -> bool
     let left = product(reach(a.x, p.x), distance(a.y, b.y));
     let right = product(distance(a.x, b.x), reach(a.y, p.y));
     left < right
-}
-
-/// The doubled distance from one coordinate to another.
-fn distance(from: i64, to: i64) -> i64
-    requires from_in { IsCoordinate from }
-    requires to_in { IsCoordinate to }
-    ensures { result ≡ pos 2 *ℤ to -ℤ pos 2 *ℤ from }
-{
-    2 * to - 2 * from
-}
-
-/// The distance from a coordinate, doubled, to a doubled one.
-fn reach(from: i64, to: i64) -> i64
-    requires from_in { IsCoordinate from }
-    requires to_in { IsDoubled to }
-    ensures { result ≡ to -ℤ pos 2 *ℤ from }
-{
-    to - 2 * from
-}
-
-/// The product of two distances.
-fn product(a: i64, b: i64) -> i128
-    ensures { result ≡ a *ℤ b }
-{
-    i128::from(a) * i128::from(b)
 }

@@ -1,8 +1,12 @@
 -- What a pen hits: a segment that meets the square round a position.
-use Rattle.std.specs.Prelude.{Bool, not, ◌&&◌, ℤ, pos, ◌+ℤ◌, ◌-ℤ◌, ◌*ℤ◌, int_lt, int_le, List, [], ◌∷◌}
+use Rattle.std.specs.Prelude.{◌^◌, Bool, not, ◌&&◌, ℤ, pos, ◌+ℤ◌, ◌-ℤ◌, ◌*ℤ◌, ◌≤ℤ◌, int_lt, int_le, List, [], ◌∷◌}
 use Rattle.std.specs.Int.{int_max, int_min}
 use Rattle.std.specs.List.{list_all}
 use Rattle.cv_model.specs.Positions.{Position, doubled}
+
+-- half the width of a pen or of a marker is from 0 to 2^60 doubled millionths
+abbrev pub IsRadius : ℤ → Type 0
+IsRadius r = (pos 0 ≤ℤ r) × (r ≤ℤ pos (2 ^ 60))
 
 -- the closed interval of half-length r round p and the one between a and b overlap
 abbrev pub overlaps : ℤ → ℤ → ℤ → ℤ → Bool
@@ -24,7 +28,7 @@ straddles a b ps =
     not (list_all (λ q. int_lt (pos 0) (side_of a b q)) ps) && not (list_all (λ q. int_lt (side_of a b q) (pos 0)) ps)
 
 -- the segment from a to b meets the square of half-side r round p: their boxes overlap, and the square straddles the line
-abbrev pub meets : ℤ → Position → Position → Position → Bool
+unfoldable pub meets : ℤ → Position → Position → Position → Bool
 meets r p a b = overlaps r p.x a.x b.x && overlaps r p.y a.y b.y && straddles a b (corners r p)
 
 -- an edge of a geometry is hit by the pen of half-width r at the doubled position p
