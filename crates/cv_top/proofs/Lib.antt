@@ -2,3 +2,4 @@
 pub mod WordLemmas
 pub mod QuotedLemmas
 pub mod LineLemmas
+pub mod EndLemmas

@@ -1,5 +1,5 @@
 -- What a count is, as std's `parse` reads it.
-use Rattle.std.proofs.Common.{codes, ◌≡◌, ℕ, ◌^◌, ◌<◌, ◌≤◌, ◌≢◌, List, [], ◌∷◌, length, get_or, drop, ◌+◌, Result, Ok, Err, Some, None, Option, IfSome, Bool, true, false, ◌&&◌, if◌then◌else◌, nat_le, ◌*◌, ℤ, refl, ap, sym, ◌∙◌, subst, arith, lit<, lit≤}
+use Rattle.std.proofs.Common.{codes, ◌≡◌, ℕ, ◌^◌, ◌<◌, ◌≤◌, ◌≢◌, List, [], ◌∷◌, length, get_or, drop, ◌+◌, Result, Ok, Err, Some, None, Option, IfSome, Bool, true, false, ◌&&◌, if◌then◌else◌, nat_le, ◌*◌, ℤ, refl, ap, sym, ◌∙◌, subst, arith, lit<}
 use Rattle.std.proofs.Math.Nat.{pow-le-pow_right}
 use Rattle.std.proofs.lemmas.Int.Digits.{digits_value-lt}
 use Rattle.std.proofs.lemmas.Str.Parse.{without_leading_plus_none}

@@ -1,4 +1,4 @@
-use Rattle.std.proofs.Common.{◌≡◌, ◌++◌, ◌∷◌, [], ap, sym, ◌∙◌, append_assoc}
+use Rattle.std.proofs.Common.{◌++◌, ◌∷◌, [], ap, sym, ◌∙◌, append_assoc}
 use Rattle.cv_model.specs.Layers.{polygons_project}
 use Rattle.cv_model.specs.Pictures.{colour_at}
 use Rattle.cv_model.specs.Rasters.{row_of}

@@ -1,5 +1,5 @@
 -- The pixels so far are the old ones and the row's first ones.
-use Rattle.std.proofs.Common.{◌≡◌, ◌++◌, ℕ}
+use Rattle.std.proofs.Common.{◌≡◌, ◌++◌}
 use Rattle.cv_model.specs.Layers.{polygons_project}
 use Rattle.cv_model.specs.Pictures.{colour_at}
 use Rattle.cv_model.specs.Rasters.{row_of}

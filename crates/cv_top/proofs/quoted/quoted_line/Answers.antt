@@ -1,5 +1,5 @@
 -- A line is cut at the first quote behind its own, so where it isn't cut so, the bytes are no line.
-use Rattle.std.proofs.Common.{◌≡◌, Some, None, sym, ◌∙◌}
+use Rattle.std.proofs.Common.{sym, ◌∙◌}
 use Rattle.std.proofs.lemmas.Option.{none-some}
 use Rattle.cv_top.proofs.QuotedLemmas.{is_cut, cut_at}
 use Rattle.cv_top.proofs.quoted.quoted_line.Goals as goal

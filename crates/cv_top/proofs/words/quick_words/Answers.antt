@@ -1,4 +1,4 @@
-use Rattle.std.proofs.Common.{◌≡◌, Some, ap, sym, ◌∙◌}
+use Rattle.std.proofs.Common.{ap, sym, ◌∙◌}
 use Rattle.std.proofs.lemmas.Option.{none-some, same_Some}
 use Rattle.cv_top.specs.declared.words.Plan.{Plan}
 use Rattle.cv_top.proofs.WordLemmas.{is_ordered, ordered}

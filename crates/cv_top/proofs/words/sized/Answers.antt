@@ -1,4 +1,4 @@
-use Rattle.std.proofs.Common.{◌≡◌, ℕ, ◌≤◌, sym, ◌∙◌, subst}
+use Rattle.std.proofs.Common.{sym, ◌∙◌}
 use Rattle.std.proofs.lemmas.Option.{none-some}
 use Rattle.cv_top.proofs.WordLemmas.{has_size, viewed, only_viewed}
 use Rattle.cv_top.proofs.words.sized.Goals as goal
