@@ -1,3 +1,11 @@
--- The definitions of the map: numbers, views, geometry, colours, painting and images.
+-- The definitions of the map, in reading order.
 pub mod Rounding
 pub mod Positions
+pub mod Views
+pub mod Polygons
+pub mod Pens
+pub mod Markers
+pub mod Colours
+pub mod Layers
+pub mod Rasters
+pub mod Pictures

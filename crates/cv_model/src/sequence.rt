@@ -1,11 +1,12 @@
-//! A list of items.
-ghost use Rattle.std.specs.Prelude.{◌≡◌, ◌++◌, ◌∷◌, [], length, OnOk, IfErr, slice_get};
+//! A list of items, for all types that are seen as a list alone.
+ghost use Rattle.std.specs.Prelude.{◌≡◌, ◌++◌, ◌∷◌, [], length, OnOk, OnErr, IfOk, IfErr, slice_get};
 ghost use Rattle.std.specs.Option.{option_copied};
 
-use std::alloc::{AllocError, Global};
+use crate::NoMemory;
+use std::alloc::Global;
 use std::marker::Model;
 
-/// A list of items.
+/// A list of items of one type, seen as that list alone.
 #[derive(Drop)]
 pub struct Sequence<T> {
     items: Vec<T>,
@@ -29,15 +30,34 @@ impl<T> Sequence<T> {
         }
     }
 
+    /// An empty list that has taken the memory of `room` items.
+    pub fn with_room(alloc: Global, room: u64) -> Result<Self, NoMemory>
+        ensures { IfOk result (λ made. made ≡ []) }
+    {
+        let items = Vec::with_capacity(alloc, room as usize)?;
+        Ok(Sequence { items })
+    }
+
     /// Puts an item behind the others. A refusal hands it back and changes nothing.
-    pub fn push(&mut self, item: T) -> Result<(), (T, AllocError)>
+    pub fn push(&mut self, item: T) -> Result<(), (T, NoMemory)>
         ensures ok { OnOk result (self.new ≡ self.old ++ item ∷ []) }
         ensures err { IfErr result (λ e. (e.0 ≡ item) × (self.new ≡ self.old)) }
     {
         match self.items.push(item) {
             Ok(()) => Ok(()),
-            Err(refused) => Err((refused.value, AllocError)),
+            Err(refused) => Err((refused.value, std::alloc::AllocError)),
         }
+    }
+
+    /// Puts an item behind the others. A refusal drops it and changes nothing.
+    pub fn put(&mut self, item: T) -> Result<(), NoMemory>
+    where
+        T: Drop,
+        ensures ok { OnOk result (self.new ≡ self.old ++ item ∷ []) }
+        ensures err { OnErr result (self.new ≡ self.old) }
+    {
+        self.items.push(item)?;
+        Ok(())
     }
 
     /// The item at a place.

@@ -1,0 +1,14 @@
+-- Products of signed numbers.
+use Rattle.std.proofs.Common.{ℕ, ◌*◌, ◌≤◌, ℤ, pos, negsuc, ◌*ℤ◌, ◌≤ℤ◌, unsigned_abs, arith}
+use Rattle.std.proofs.Math.Nat.{mul-le-mul_right}
+use Rattle.std.proofs.lemmas.Int.{ints, unsigned_abs-mul}
+use Rattle.std.proofs.lemmas.Nat.{mul-le}
+
+-- fewer steps of a positive length reach less far, and not below 0
+pub scaled : (k n : ℕ) (u : ℤ) → k ≤ n → pos 1 ≤ℤ u → (pos 0 ≤ℤ (pos k *ℤ u)) × ((pos k *ℤ u) ≤ℤ (pos n *ℤ u))
+scaled k n (pos m) within unit = (omega (arith, ints), omega (arith, ints, mul-le-mul_right m within))
+scaled k n (negsuc m) within unit = absurd (omega (arith, ints))
+
+-- a product is at most the product of the bounds
+pub abs-mul-le : (a b : ℤ) (m n : ℕ) → unsigned_abs a ≤ m → unsigned_abs b ≤ n → unsigned_abs (a *ℤ b) ≤ m * n
+abs-mul-le a b m n low high = omega (arith, unsigned_abs-mul a b, mul-le (unsigned_abs a) (unsigned_abs b) m n low high)

@@ -1,0 +1,7 @@
+use Rattle.std.proofs.Common.{sym, arith}
+use Rattle.cv_geom.proofs.Crossings.{edges-last}
+use Rattle.cv_geom.proofs.parity.is_crossed_oddly.Goals as goal
+
+pub loop-point-init : goal.loop-point-init
+loop-point-init c =
+    let ring = edges-last c.args.points.now c.in-Some.last.now (sym c.in-Some.ensures.value) in grind (arith, ring)

@@ -1,0 +1,2 @@
+-- The definitions of views from extents.
+pub mod Views

@@ -1,0 +1,19 @@
+//! Views of the map, and the exact tests of geometries against pixel centres.
+//!
+//! Contract: each call answers exactly what the definition of its name says, for all values of its types.
+//! Definitions: `Views` here; `Views`, `Polygons`, `Pens` and `Markers` of `cv_model`.
+//! No call takes memory, no handle is needed.
+#![tactic(auto)]
+
+pub mod centres;
+pub mod markers;
+mod measures;
+pub mod parity;
+pub mod pens;
+pub mod views;
+
+pub use centres::centre;
+pub use markers::marked;
+pub use parity::inside;
+pub use pens::near;
+pub use views::{ViewError, view_of};

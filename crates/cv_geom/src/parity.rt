@@ -1,0 +1,64 @@
+//! The inside of a polygon, by the parity of the edges that cross right of a position.
+
+ghost use Rattle.std.specs.Prelude.{◌≡◌, ◌==◌, ◌%◌};
+ghost use Rattle.cv_model.specs.Positions.{doubled};
+ghost use Rattle.cv_model.specs.Polygons.{is_low, passes_right, is_crossed, crossings, edges, is_inside};
+
+use crate::measures::{distance, product, reach};
+use cv_model::{Point, Point2, Polygon};
+
+/// Whether a position lies inside a polygon: an odd number of the edges of all its rings crosses right of it.
+///
+/// Left and bottom borders belong to the polygon, right and top borders don't. The position is in doubled millionths.
+pub fn inside(polygon: &Polygon, p: Point2) -> bool
+    ensures { result ≡ is_inside p polygon.now }
+{
+    let mut odd = false;
+    for ring in polygon.as_slice() {
+        odd = odd != is_crossed_oddly(ring.as_slice(), p);
+    }
+    odd
+}
+
+/// Whether an odd number of the edges of a ring crosses right of a position.
+fn is_crossed_oddly(points: &[Point], p: Point2) -> bool
+    ensures { result ≡ (crossings p (edges points.now) % 2 == 1) }
+{
+    let Some(last) = points.last() else {
+        return false;
+    };
+    let mut before = *last;
+    let mut odd = false;
+    for point in points {
+        odd = odd != is_crossed(before, *point, p);
+        before = *point;
+    }
+    odd
+}
+
+/// Whether the edge from `a` to `b` crosses the height of `p` strictly right of it.
+fn is_crossed(a: Point, b: Point, p: Point2) -> bool
+    ensures { result ≡ is_crossed p (a, b) }
+{
+    match (is_low(a, p), is_low(b, p)) {
+        (true, false) => passes_right(a, b, p),
+        (false, true) => passes_right(b, a, p),
+        _ => false,
+    }
+}
+
+/// Whether a point stands at a height of at most that of `p`.
+fn is_low(a: Point, p: Point2) -> bool
+    ensures { result ≡ is_low p (doubled a) }
+{
+    2 * a.y <= p.y
+}
+
+/// Whether the line from `a` up to `b` passes the height of `p` strictly right of it.
+fn passes_right(a: Point, b: Point, p: Point2) -> bool
+    ensures { result ≡ passes_right p (doubled a) (doubled b) }
+{
+    let left = product(reach(a.x, p.x), distance(a.y, b.y));
+    let right = product(distance(a.x, b.x), reach(a.y, p.y));
+    left < right
+}
