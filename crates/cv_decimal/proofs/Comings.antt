@@ -10,8 +10,8 @@ use Rattle.cv_decimal.specs.declared.place.Role.TheVariants.{Negative, WholeDigi
 use Rattle.cv_decimal.specs.declared.fixed.Fixed.{Fixed}
 use Rattle.cv_decimal.specs.declared.fixed.Fixed.TheVariants.{NotNumber}
 use Rattle.cv_decimal.specs.Marks.{mark_of}
-use Rattle.cv_decimal.specs.Spellings.{Sign, NoSign, PlusSign, MinusSign, Mantissa, Digits, PointFirst, Exponent, NoExponent, TenTo, Body, NotANumber, Number, sign, digits, fraction, exponent, body}
-use Rattle.cv_decimal.specs.Reading.{next_of, worth_at, At, Parts, with_role, worth, decimal_reader}
+use Rattle.cv_decimal.specs.Spellings.{Sign, NoSign, PlusSign, MinusSign, Mantissa, Digits, PointFirst, Exponent, NoExponent, TenTo, Body, NotANumber, Number, sign_marks, digit_marks, fraction_marks, exponent_marks, body_marks}
+use Rattle.cv_decimal.specs.Reader.{next_of, worth_at, At, Parts, with_role, worth, decimal_reader}
 
 -- ---- the numbers behind a piece of a spelling
 
@@ -57,17 +57,17 @@ body_worth (Number m e) x = worth (with_exponent e (with_mantissa m x))
 
 -- marks that complete a spelling of the value behind the place, where the numbers so far are x
 abbrev pub Comes : Place → Parts → List Mark → Fixed → Type 0
-Comes Start x w v = (s : Sign) × (b : Body) × (w ≡ sign s ++ body b) × (v ≡ body_worth b (with_sign s x))
-Comes Signed x w v = (b : Body) × (w ≡ body b) × (v ≡ body_worth b x)
+Comes Start x w v = (s : Sign) × (b : Body) × (w ≡ sign_marks s ++ body_marks b) × (v ≡ body_worth b (with_sign s x))
+Comes Signed x w v = (b : Body) × (w ≡ body_marks b) × (v ≡ body_worth b x)
 Comes OneLetter x w v = (w ≡ LetterA ∷ LetterN ∷ []) × (v ≡ NotNumber)
 Comes TwoLetters x w v = (w ≡ LetterN ∷ []) × (v ≡ NotNumber)
 Comes Nan x w v = (w ≡ []) × (v ≡ NotNumber)
-Comes Whole x w v = (ds : List ℕ) × (rest : Option (List ℕ)) × (e : Exponent) × (w ≡ (digits ds ++ fraction rest) ++ exponent e) × (v ≡ worth (with_exponent e (with_fraction rest (with_whole ds x))))
-Comes Bare x w v = (d : ℕ) × (ds : List ℕ) × (e : Exponent) × (w ≡ Digit d ∷ digits ds ++ exponent e) × (v ≡ worth (with_exponent e (with_rest (d ∷ ds) x)))
-Comes Dotted x w v = (ds : List ℕ) × (e : Exponent) × (w ≡ digits ds ++ exponent e) × (v ≡ worth (with_exponent e (with_rest ds x)))
-Comes Marked x w v = (s : Sign) × (d : ℕ) × (ds : List ℕ) × (w ≡ sign s ++ Digit d ∷ digits ds) × (v ≡ worth (with_power (d ∷ ds) (with_power_sign s x)))
-Comes MarkedSigned x w v = (d : ℕ) × (ds : List ℕ) × (w ≡ Digit d ∷ digits ds) × (v ≡ worth (with_power (d ∷ ds) x))
-Comes Powered x w v = (ds : List ℕ) × (w ≡ digits ds) × (v ≡ worth (with_power ds x))
+Comes Whole x w v = (ds : List ℕ) × (rest : Option (List ℕ)) × (e : Exponent) × (w ≡ (digit_marks ds ++ fraction_marks rest) ++ exponent_marks e) × (v ≡ worth (with_exponent e (with_fraction rest (with_whole ds x))))
+Comes Bare x w v = (d : ℕ) × (ds : List ℕ) × (e : Exponent) × (w ≡ Digit d ∷ digit_marks ds ++ exponent_marks e) × (v ≡ worth (with_exponent e (with_rest (d ∷ ds) x)))
+Comes Dotted x w v = (ds : List ℕ) × (e : Exponent) × (w ≡ digit_marks ds ++ exponent_marks e) × (v ≡ worth (with_exponent e (with_rest ds x)))
+Comes Marked x w v = (s : Sign) × (d : ℕ) × (ds : List ℕ) × (w ≡ sign_marks s ++ Digit d ∷ digit_marks ds) × (v ≡ worth (with_power (d ∷ ds) (with_power_sign s x)))
+Comes MarkedSigned x w v = (d : ℕ) × (ds : List ℕ) × (w ≡ Digit d ∷ digit_marks ds) × (v ≡ worth (with_power (d ∷ ds) x))
+Comes Powered x w v = (ds : List ℕ) × (w ≡ digit_marks ds) × (v ≡ worth (with_power ds x))
 
 -- the same behind one mark more
 abbrev pub ComesBehind : Place → Parts → Mark → List Mark → Fixed → Type 0

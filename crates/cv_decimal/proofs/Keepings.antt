@@ -14,7 +14,7 @@ use Rattle.cv_decimal.specs.declared.place.Role.{Role}
 use Rattle.cv_decimal.specs.declared.place.Role.TheVariants.{Form, Negative, WholeDigit, RestDigit, Lowering, PowerDigit}
 use Rattle.cv_decimal.specs.Marks.{is_digit, is_letter, mark_of}
 use Rattle.cv_decimal.specs.Spellings.{fixed}
-use Rattle.cv_decimal.specs.Reading.{next_of, worth_at, At, Parts, with_role, worth, nothing_read, decimal_reader}
+use Rattle.cv_decimal.specs.Reader.{next_of, worth_at, At, Parts, with_role, worth, nothing_read, decimal_reader}
 use Rattle.cv_decimal.specs.Keeping.{with_digit, kept_role, settled, kept_worth, nothing_kept, keeping_reader}
 use Rattle.cv_decimal.proofs.Numbers.{Stands, stands_zero, stands_kept, stands_dropped, settled_is, settled_above, settled_below, fixed_min}
 

@@ -7,7 +7,7 @@ use Rattle.cv_decimal.specs.declared.kept.Kept.{Kept}
 use Rattle.cv_decimal.specs.declared.place.Place.{Place}
 use Rattle.cv_decimal.specs.declared.place.Place.TheVariants.{Start}
 use Rattle.cv_decimal.specs.Spellings.{Spells}
-use Rattle.cv_decimal.specs.Reading.{decimal_of}
+use Rattle.cv_decimal.specs.Reader.{decimal_of}
 use Rattle.cv_decimal.specs.Keeping.{keeping_reader, nothing_kept}
 use Rattle.cv_decimal.proofs.Values.{decimal_reads}
 use Rattle.cv_decimal.proofs.Keepings.{keeping_is}
@@ -24,4 +24,5 @@ pub keeping_reads : (text : List ℕ) → length text < 9223372036854775808 → 
 keeping_reads text few = subst (IsReading Spells text) (keeping_is text few) (decimal_reads text)
 
 pub keeping_exact : (text : List ℕ) → length text < 9223372036854775808 → result_ok (run keeping_reader text (record { place = Start; parts = nothing_kept })) ≡ decimal_of text
+unfolding decimal_of
 keeping_exact text few = sym (ap result_ok (keeping_is text few))

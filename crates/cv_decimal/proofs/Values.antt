@@ -10,7 +10,7 @@ use Rattle.cv_decimal.specs.declared.place.Role.TheVariants.{WholeDigit, RestDig
 use Rattle.cv_decimal.specs.declared.fixed.Fixed.{Fixed}
 use Rattle.cv_decimal.specs.Marks.{mark_of}
 use Rattle.cv_decimal.specs.Spellings.{Sign, NoSign, PlusSign, MinusSign, Mantissa, Digits, PointFirst, Exponent, NoExponent, TenTo, Body, NotANumber, Number, number_from, all_digits, places, raised, lowered, is_minus, fixed, value, Spells, IsInRange}
-use Rattle.cv_decimal.specs.Reading.{Parts, with_role, worth, nothing_read, decimal_reader, decimal_of}
+use Rattle.cv_decimal.specs.Reader.{Parts, with_role, worth, nothing_read, decimal_reader, decimal_of}
 use Rattle.cv_decimal.proofs.Comings.{with_whole, with_rest, with_power, with_sign, with_mantissa, with_power_sign, with_exponent, body_worth, Comes, Rest, reads}
 use Rattle.cv_decimal.proofs.Numbers.{fixed_in}
 
@@ -67,8 +67,10 @@ value_is s (Number m e) =
 
 -- what may come at the start is a spelling
 spelt : (text : List ℕ) (v : Fixed) → Comes Start nothing_read (map mark_of text) v ↔ Spells text v
-spelt text v =
-    (λ (s, b, e, h). (s, b, e, h ∙ value_is s b), λ (s, b, e, h). (s, b, e, h ∙ sym (value_is s b)))
+spelt text v = (
+  λ (s, b, e, h). record { sign = s; body = b; marks = e; worth = h ∙ value_is s b },
+  λ t. (t.sign, t.body, t.marks, t.worth ∙ sym (value_is t.sign t.body)),
+)
 
 -- the machine's answer is the value of the text, or its first wrong place
 pub decimal_reads : (text : List ℕ) → IsReading Spells text (run decimal_reader text (record { place = Start; parts = nothing_read }))
@@ -77,6 +79,7 @@ decimal_reads text =
 
 -- the function and the relation say the same
 pub decimal_of_spelt : (text : List ℕ) (v : Fixed) → (decimal_of text ≡ Some v) ↔ Spells text v
+unfolding decimal_of
 decimal_of_spelt text v = value_spelt Spells text _ (decimal_reads text) v
 
 -- a value that is spelt is a coordinate
@@ -85,4 +88,4 @@ value_in s NotANumber = tt
 value_in s (Number m e) = fixed_in (is_minus s) _
 
 pub spelt_in : (text : List ℕ) (v : Fixed) → Spells text v → IsInRange v
-spelt_in text v (s, b, e, h) = subst IsInRange (sym h) (value_in s b)
+spelt_in text v t = subst IsInRange (sym t.worth) (value_in t.sign t.body)

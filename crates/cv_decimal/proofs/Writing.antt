@@ -13,7 +13,7 @@ use Rattle.cv_model.specs.Positions.{IsCoordinate}
 use Rattle.cv_decimal.specs.declared.mark.Mark.TheVariants.{Digit, Point, Minus}
 use Rattle.cv_decimal.specs.declared.fixed.Fixed.TheVariants.{Value}
 use Rattle.cv_decimal.specs.Marks.{is_digit, mark_of}
-use Rattle.cv_decimal.specs.Spellings.{NoSign, MinusSign, Mantissa, Digits, NoExponent, Number, digits, mantissa, number_from, all_digits, places, fixed, Spells}
+use Rattle.cv_decimal.specs.Spellings.{NoSign, MinusSign, Mantissa, Digits, NoExponent, Number, digit_marks, mantissa_marks, number_from, all_digits, places, fixed, Spells}
 use Rattle.cv_decimal.specs.Written.{places_of, written_size, written}
 use Rattle.cv_decimal.proofs.Numbers.{rnd_whole, ten_pos, fixed_fits}
 
@@ -82,7 +82,7 @@ mark_digit d h =
 record SpellsNumber (n : ℕ) (bs : List ℕ) : Type 0 where
   first : ℕ
   others : List ℕ
-  marks : map mark_of bs ≡ Digit first ∷ digits others
+  marks : map mark_of bs ≡ Digit first ∷ digit_marks others
   number : number_from 0 (first ∷ others) ≡ n
 
 one_digit : (n : ℕ) → n < 10 → SpellsNumber n ((48 + n) ∷ [])
@@ -105,7 +105,7 @@ decimal_spelt n h = decimal_by_steps SpellsNumber one_digit digit_behind n h
 -- the written digits behind the point spell r / 10^k: with zeros up to k digits they are m * 10^k + r behind any m
 record SpellsPlaces (k r : ℕ) : Type 0 where
   all : List ℕ
-  marks : map mark_of (places_of k r) ≡ digits all
+  marks : map mark_of (places_of k r) ≡ digit_marks all
   few : length all ≤ k
   number : (m : ℕ) → number_from m all * 10 ^ (k - length all) ≡ m * 10 ^ k + r
 
@@ -140,7 +140,7 @@ places_spelt (suc k) r h = by_rest (cases_lt 0 r) (places_spelt k (r % 10 ^ k) (
 -- a written form without a sign, and the number that it has
 record SpellsSize (n : ℕ) : Type 0 where
   number : Mantissa
-  marks : map mark_of (written_size n) ≡ mantissa number
+  marks : map mark_of (written_size n) ≡ mantissa_marks number
   size : rnd (number_from 0 (all_digits number) * 10 ^ 6) (10 ^ (places number + 0)) ≡ n
 
 whole_spelt : (n : ℕ) → n < 18446744073709551616 → n % 1000000 ≡ 0 → SpellsSize n
@@ -185,10 +185,10 @@ size_spelt n fits = by_rest (cases_lt 0 (n % 1000000))
     by_rest (inl some) = rest_spelt n fits some
     by_rest (inr none) = whole_spelt n fits (omega arith)
 
--- a written form is a spelling of the number written, where that is a coordinate
 not_negative : (n : ℕ) → int_lt (pos n) (pos 0) ≡ false
 not_negative n = grind (arith, nat_tests)
 
+-- a written form is a spelling of the number written, where that is a coordinate
 pub written_spelt : (z : ℤ) → IsCoordinate z → Spells (written z) (Value z)
 unfolding written
 written_spelt (pos n) h = by_size (omega (arith, ints, h.1)) (size_spelt n (omega (arith, ints, h.1)))
@@ -196,9 +196,18 @@ written_spelt (pos n) h = by_size (omega (arith, ints, h.1)) (size_spelt n (omeg
     by_size : n ≤ 1000000000000000 → SpellsSize n → Spells (written (pos n)) (Value (pos n))
     by_size few s =
         let form = ap (λ t. map mark_of (if t then 45 ∷ written_size n else written_size n)) (not_negative n) in
-        (NoSign, Number s.number NoExponent, form ∙ s.marks ∙ sym (append-nil (mantissa s.number)), sym (ap (fixed false) s.size ∙ fixed_fits false n few))
+        record {
+          sign = NoSign;
+          body = Number s.number NoExponent;
+          marks = form ∙ s.marks ∙ sym (append-nil (mantissa_marks s.number));
+          worth = sym (ap (fixed false) s.size ∙ fixed_fits false n few);
+        }
 written_spelt (negsuc n) h = by_size (omega (arith, ints, h.0)) (size_spelt (suc n) (omega (arith, ints, h.0)))
   where
     by_size : suc n ≤ 1000000000000000 → SpellsSize (suc n) → Spells (written (negsuc n)) (Value (negsuc n))
-    by_size few s =
-        (MinusSign, Number s.number NoExponent, ap (λ x. Minus ∷ x) (s.marks ∙ sym (append-nil (mantissa s.number))), sym (ap (fixed true) s.size ∙ fixed_fits true (suc n) few))
+    by_size few s = record {
+      sign = MinusSign;
+      body = Number s.number NoExponent;
+      marks = ap (λ x. Minus ∷ x) (s.marks ∙ sym (append-nil (mantissa_marks s.number)));
+      worth = sym (ap (fixed true) s.size ∙ fixed_fits true (suc n) few);
+    }

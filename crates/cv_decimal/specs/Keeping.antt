@@ -7,7 +7,7 @@ use Rattle.cv_decimal.specs.declared.place.Role.{Role}
 use Rattle.cv_decimal.specs.declared.place.Role.TheVariants.{Form, Negative, WholeDigit, RestDigit, Lowering, PowerDigit}
 use Rattle.cv_decimal.specs.declared.fixed.Fixed.{Fixed}
 use Rattle.cv_decimal.specs.Spellings.{fixed}
-use Rattle.cv_decimal.specs.Reading.{At, going}
+use Rattle.cv_decimal.specs.Reader.{At, going}
 
 -- one digit more: behind 18 digits it is only counted
 abbrev pub with_digit : ℕ → Kept → Kept

@@ -33,29 +33,29 @@ pub data Body : Type 0 where
 
 -- ---- its spelling
 
-abbrev pub sign : Sign → List Mark
-sign NoSign = []
-sign PlusSign = Plus ∷ []
-sign MinusSign = Minus ∷ []
+abbrev pub sign_marks : Sign → List Mark
+sign_marks NoSign = []
+sign_marks PlusSign = Plus ∷ []
+sign_marks MinusSign = Minus ∷ []
 
-abbrev pub digits : List ℕ → List Mark
-digits ds = map Digit ds
+abbrev pub digit_marks : List ℕ → List Mark
+digit_marks ds = map Digit ds
 
-abbrev pub fraction : Option (List ℕ) → List Mark
-fraction None = []
-fraction (Some ds) = Point ∷ digits ds
+abbrev pub fraction_marks : Option (List ℕ) → List Mark
+fraction_marks None = []
+fraction_marks (Some ds) = Point ∷ digit_marks ds
 
-abbrev pub mantissa : Mantissa → List Mark
-mantissa (Digits d ds rest) = Digit d ∷ digits ds ++ fraction rest
-mantissa (PointFirst d ds) = Point ∷ Digit d ∷ digits ds
+abbrev pub mantissa_marks : Mantissa → List Mark
+mantissa_marks (Digits d ds rest) = Digit d ∷ digit_marks ds ++ fraction_marks rest
+mantissa_marks (PointFirst d ds) = Point ∷ Digit d ∷ digit_marks ds
 
-abbrev pub exponent : Exponent → List Mark
-exponent NoExponent = []
-exponent (TenTo s d ds) = LetterE ∷ (sign s ++ Digit d ∷ digits ds)
+abbrev pub exponent_marks : Exponent → List Mark
+exponent_marks NoExponent = []
+exponent_marks (TenTo s d ds) = LetterE ∷ (sign_marks s ++ Digit d ∷ digit_marks ds)
 
-abbrev pub body : Body → List Mark
-body NotANumber = LetterN ∷ LetterA ∷ LetterN ∷ []
-body (Number m e) = mantissa m ++ exponent e
+abbrev pub body_marks : Body → List Mark
+body_marks NotANumber = LetterN ∷ LetterA ∷ LetterN ∷ []
+body_marks (Number m e) = mantissa_marks m ++ exponent_marks e
 
 -- ---- its value
 
@@ -101,8 +101,11 @@ value s (Number m e) =
     fixed (is_minus s) (rnd (number_from 0 (all_digits m) * 10 ^ (6 + raised e)) (10 ^ (places m + lowered e)))
 
 -- a text is a spelling of the value
-abbrev pub Spells : List ℕ → Fixed → Type 0
-Spells text v = (s : Sign) × (b : Body) × (map mark_of text ≡ sign s ++ body b) × (v ≡ value s b)
+pub record Spells (text : List ℕ) (v : Fixed) : Type 0 where
+  pub sign : Sign
+  pub body : Body
+  pub marks : map mark_of text ≡ sign_marks sign ++ body_marks body
+  pub worth : v ≡ value sign body
 
 -- there is a byte, the text is no spelling, and its longest front that begins one is `at` bytes long
 abbrev pub IsBadByte : List ℕ → ℕ → Type 0

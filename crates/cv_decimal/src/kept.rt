@@ -1,8 +1,8 @@
 //! What is kept of a decimal's numbers while it is read.
-ghost use Rattle.std.specs.Prelude.{◌≡◌, ℕ, ◌+◌, ◌*◌, ◌/◌, ◌^◌, ◌<◌, ◌≤◌, min};
+ghost use Rattle.std.specs.Prelude.{◌≡◌, ◌*◌, ◌^◌, ◌<◌, min};
 ghost use Rattle.cv_model.specs.Rounding.{rnd};
 ghost use Rattle.cv_decimal.specs.Spellings.{fixed};
-ghost use Rattle.cv_decimal.specs.Keeping.{with_digit, kept_role, settled, high, low, kept_worth, nothing_kept};
+ghost use Rattle.cv_decimal.specs.Keeping.{with_digit, kept_role, settled, kept_worth, nothing_kept};
 
 use crate::fixed::Fixed;
 use crate::place::Role;
@@ -99,6 +99,7 @@ impl Kept {
     }
 }
 
+/// `digits` times 10^`high` over 10^`low`, or the limit and one where it is above the limit.
 #[tactic(auto, unfolding(crate::specs::Keeping::settled))]
 fn millionths(digits: u64, high: u128, low: u128) -> u64
     requires digits { digits < 2000000000000000000 }

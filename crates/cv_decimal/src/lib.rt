@@ -2,7 +2,7 @@
 //!
 //! Contract: `read` answers the value that the grammar spells, all digits taken as one number and
 //! rounded half away from zero, and else the first byte that can't stand; `write` gives the written
-//! form, which `read` reads back. Definitions: `Spellings`, `Written`, and as a machine `Reading`.
+//! form, which `read` reads back. Definitions: `Spellings`, `Written`, and as a machine `Reader`.
 //! `read` takes no memory, goes over the text once and keeps 18 digits, whatever the lengths.
 #![tactic(auto)]
 
@@ -10,7 +10,7 @@ ghost use Rattle.std.specs.Prelude.{◌≡◌, ◌↔◌, ℕ, ℤ, [], IfOk, st
 ghost use Rattle.cv_model.specs.Positions.{IsCoordinate};
 ghost use Rattle.std.specs.Result.{result_ok};
 ghost use Rattle.cv_decimal.specs.Spellings.{Spells, IsBadByte, IsInRange};
-ghost use Rattle.cv_decimal.specs.Reading.{decimal_of};
+ghost use Rattle.cv_decimal.specs.Reader.{decimal_of};
 ghost use Rattle.cv_decimal.specs.Written.{written};
 
 mod fixed;
@@ -28,6 +28,7 @@ use std::alloc::{AllocError, Global};
 /// The grammar is this project's own: an optional `+` or `-`, then `nan` in any case, or a mantissa
 /// and an optional exponent. The mantissa is digits, or digits and a point, or digits, a point and
 /// digits, or a point and digits. The exponent is `e` or `E`, an optional sign, and digits.
+#[tactic(auto, unfolding(crate::specs::Reader::decimal_of))]
 pub fn read(text: &[u8]) -> Result<Fixed, DecimalError>
     ensures found { IfOk result (Spells text.now) }
     ensures only { (v : Fixed) → Spells text.now v → result ≡ Ok v }

@@ -1,5 +1,5 @@
 //! The pieces of a decimal's written form.
-ghost use Rattle.std.specs.Prelude.{◌≡◌, ◌++◌, ◌^◌, ◌<◌, IfOk, OnOk, string_bytes};
+ghost use Rattle.std.specs.Prelude.{◌≡◌, ◌++◌, ◌<◌, OnOk, string_bytes};
 ghost use Rattle.cv_decimal.specs.Written.{places_of, written_size};
 
 use std::alloc::AllocError;

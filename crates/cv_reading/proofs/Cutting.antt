@@ -1,5 +1,5 @@
 -- The tokens of a text, one after the other.
-use Rattle.std.proofs.Common.{◌≡◌, ℕ, suc, ◌+◌, Bool, true, false, cond, not, List, [], ◌∷◌, take, drop, filter, flat_map, refl, ap, ◌∙◌, arith}
+use Rattle.std.proofs.Common.{◌≡◌, ℕ, suc, ◌+◌, Bool, true, false, cond, not, List, [], ◌∷◌, length, take, drop, filter, flat_map, refl, ap, ◌∙◌, arith}
 use Rattle.std.specs.List.{prefix_len}
 use Rattle.cv_reading.specs.Tokens.{ByteKind, White, Single, Word, Token, is_word, is_white, begins_word, joined, with_byte, cut}
 
@@ -72,3 +72,49 @@ byte_step at b Word follows ts bs e = joined_bytes at b follows ts ∙ ap (λ x.
 pub cut_bytes : (kind : ℕ → ByteKind) (at : ℕ) (bs : List ℕ) → flat_map (λ (t : Token). t.bytes) (cut kind at bs) ≡ filter (λ b. not (is_white (kind b))) bs
 cut_bytes kind at [] = refl
 cut_bytes kind at (b ∷ bs) = byte_step at b (kind b) (begins_word kind bs) (cut kind (suc at) bs) _ (cut_bytes kind (suc at) bs)
+
+-- each token stands at its offset in the text, whose first byte stands at `at`
+pub record Stands (at : ℕ) (bs : List ℕ) (t : Token) : Type 0 where
+  pub before : ℕ
+  pub place : t.at ≡ at + before
+  pub bytes : take (length t.bytes) (drop before bs) ≡ t.bytes
+
+abbrev pub AllStand : ℕ → List ℕ → List Token → Type 0
+AllStand at bs [] = Unit {0}
+AllStand at bs (t ∷ ts) = Stands at bs t × AllStand at bs ts
+
+-- behind one byte more
+later : (at b : ℕ) (bs : List ℕ) (ts : List Token) → AllStand (suc at) bs ts → AllStand at (b ∷ bs) ts
+later at b bs [] h = tt
+later at b bs (t ∷ ts) h = (record { before = suc h.0.before; place = h.0.place ∙ omega arith; bytes = h.0.bytes }, later at b bs ts h.1)
+
+alone : (at b : ℕ) (bs : List ℕ) → Stands at (b ∷ bs) (record { at = at; bytes = b ∷ [] })
+alone at b bs = record { before = 0; place = omega arith; bytes = refl }
+
+-- the first token begins the text
+abbrev BeginsText : List ℕ → List Token → Type 0
+BeginsText bs [] = Unit {0}
+BeginsText bs (t ∷ ts) = take (length t.bytes) bs ≡ t.bytes
+
+begins_step : (at b : ℕ) (bs : List ℕ) (k : ByteKind) (follows : Bool) (ts : List Token) → is_word k ≡ true → (follows ≡ true → BeginsText bs ts) → BeginsText (b ∷ bs) (with_byte at b k follows ts)
+begins_step at b bs White follows ts e h = absurd (cc)
+begins_step at b bs Single follows ts e h = absurd (cc)
+begins_step at b bs Word false ts e h = refl
+begins_step at b bs Word true [] e h = refl
+begins_step at b bs Word true (t ∷ ts) e h = ap (λ x. b ∷ x) (h refl)
+
+begins_text : (kind : ℕ → ByteKind) (at : ℕ) (bs : List ℕ) → begins_word kind bs ≡ true → BeginsText bs (cut kind at bs)
+begins_text kind at [] e = tt
+begins_text kind at (b ∷ bs) e = begins_step at b bs (kind b) (begins_word kind bs) (cut kind (suc at) bs) e (begins_text kind (suc at) bs)
+
+stands_step : (at b : ℕ) (bs : List ℕ) (k : ByteKind) (follows : Bool) (ts : List Token) → AllStand (suc at) bs ts → (follows ≡ true → BeginsText bs ts) → AllStand at (b ∷ bs) (with_byte at b k follows ts)
+stands_step at b bs White follows ts h first = later at b bs ts h
+stands_step at b bs Single follows ts h first = (alone at b bs, later at b bs ts h)
+stands_step at b bs Word false ts h first = (alone at b bs, later at b bs ts h)
+stands_step at b bs Word true [] h first = (alone at b bs, tt)
+stands_step at b bs Word true (t ∷ ts) h first = (record { before = 0; place = omega arith; bytes = ap (λ x. b ∷ x) (first refl) }, later at b bs ts h.1)
+
+pub cut_stands : (kind : ℕ → ByteKind) (at : ℕ) (bs : List ℕ) → AllStand at bs (cut kind at bs)
+cut_stands kind at [] = tt
+cut_stands kind at (b ∷ bs) =
+    stands_step at b bs (kind b) (begins_word kind bs) (cut kind (suc at) bs) (cut_stands kind (suc at) bs) (begins_text kind (suc at) bs)

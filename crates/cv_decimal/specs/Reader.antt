@@ -86,5 +86,5 @@ abbrev pub decimal_reader : Machine (At Parts) ℕ Fixed
 decimal_reader = going with_role worth
 
 -- the value of a text, where it is a spelling: `Spells` as a function
-abbrev pub decimal_of : List ℕ → Option Fixed
+unfoldable pub decimal_of : List ℕ → Option Fixed
 decimal_of text = result_ok (run decimal_reader text (record { place = Start; parts = nothing_read }))
