@@ -111,3 +111,23 @@ kept_by true v range = (λ e. cc, λ far. absurd (range.apart range.told far))
 -- a grid is refused for its range alone
 pub kept_cause : (v : PixelGrid) → (kept v ≡ Err Range) ↔ LeavesRange v
 kept_cause v = kept_by (is_in_range v) v (range_decided v)
+
+-- where all three tests hold
+all_passed : {S S' A A' : Type 0} (s a r : Bool) (v w : PixelGrid) → Decided s S S' → Decided a A A' → chosen s a r v ≡ Ok w → S × (A × (v ≡ w))
+all_passed true true true v w size area same = (size.told, (area.told, cc))
+all_passed true true false v w size area same = cc
+all_passed true false r v w size area same = cc
+all_passed false a r v w size area same = cc
+
+-- what there is a view of, and which
+pub view_found : (e : Rectangle) (w h : ℕ) (v : PixelGrid) → view_of e w h ≡ Ok v → IsSize w h × (IsSpread e × (grid_of e w h ≡ v))
+view_found e w h v found =
+    all_passed (is_size w h) (is_spread e) (is_in_range (grid_of e w h)) (grid_of e w h) v (size_decided w h) (spread_decided e) found
+
+-- a grid that was kept is the one asked for
+pub kept_same : (v w : PixelGrid) → kept v ≡ Ok w → v ≡ w
+kept_same v w same = by (is_in_range v) same
+  where
+    by : (r : Bool) → chosen true true r v ≡ Ok w → v ≡ w
+    by true same = cc
+    by false same = cc

@@ -1,2 +1,4 @@
--- The definitions of views from extents.
+-- The definitions of views, and the laws of views and of polygons side by side.
 pub mod Views
+pub mod ViewLaws
+pub mod Tilings

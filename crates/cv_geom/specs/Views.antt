@@ -1,7 +1,7 @@
 -- The view of an extent, and why there is none.
-use Rattle.std.specs.Prelude.{ℕ, ◌≡◌, ◌*◌, ◌<◌, ◌≤◌, nat_le, ℤ, pos, negsuc, ◌+ℤ◌, ◌-ℤ◌, ◌*ℤ◌, ◌<ℤ◌, ◌≤ℤ◌, int_lt, int_le, Bool, ◌&&◌, if◌then◌else◌, ◌⊎◌, Result, Ok, Err}
+use Rattle.std.specs.Prelude.{ℕ, max, ◌≡◌, ◌*◌, ◌<◌, ◌≤◌, nat_le, ℤ, pos, negsuc, ◌+ℤ◌, ◌-ℤ◌, ◌*ℤ◌, ◌<ℤ◌, ◌≤ℤ◌, int_lt, int_le, Bool, ◌&&◌, if◌then◌else◌, ◌⊎◌, Result, Ok, Err}
 use Rattle.cv_model.specs.Positions.{Rectangle}
-use Rattle.cv_model.specs.Views.{PixelGrid, grid_of}
+use Rattle.cv_model.specs.Views.{PixelGrid, natural, ceiling, grid_of}
 use Rattle.cv_geom.specs.declared.views.ViewError.{ViewError}
 use Rattle.cv_geom.specs.declared.views.ViewError.TheVariants.{Size, Empty, Range}
 
@@ -40,6 +40,34 @@ view_of e w h =
     if is_size w h
     then (if is_spread e then kept (grid_of e w h) else Err Empty)
     else Err Size
+
+-- a grid moved by so many of its pixels, eastwards and southwards
+abbrev pub moved : PixelGrid → ℤ → ℤ → PixelGrid
+moved v dx dy = record v { lx2 = v.lx2 +ℤ pos 2 *ℤ dx *ℤ v.u; ty2 = v.ty2 -ℤ pos 2 *ℤ dy *ℤ v.u }
+
+-- the view moved by so many of its pixels, if that stays in range
+abbrev pub pan : PixelGrid → ℤ → ℤ → Result PixelGrid ViewError
+pan v dx dy = kept (moved v dx dy)
+
+-- a pixel's side, num / den times as long, rounded upwards, at least 1
+abbrev pub scaled_side : ℤ → ℕ → ℕ → ℕ
+scaled_side u num den = max 1 (ceiling (natural u * num) den)
+
+-- a grid with pixels of another side round the same middle
+abbrev pub resized : PixelGrid → ℤ → PixelGrid
+resized v u = record v {
+  lx2 = v.lx2 +ℤ pos v.w *ℤ v.u -ℤ pos v.w *ℤ u;
+  ty2 = v.ty2 -ℤ pos v.h *ℤ v.u +ℤ pos v.h *ℤ u;
+  u = u;
+}
+
+-- the parts of a zoom's scale are from 1 to 1,000
+abbrev pub IsZoomPart : ℕ → Type 0
+IsZoomPart n = (1 ≤ n) × (n ≤ 1000)
+
+-- the view with pixels num / den times as long, round the same middle, if that stays in range
+abbrev pub zoom : PixelGrid → ℕ → ℕ → Result PixelGrid ViewError
+zoom v num den = kept (resized v (pos (scaled_side v.u num den)))
 
 -- sides of 1 to 4,096 pixels, and at most 2,097,152 pixels
 abbrev pub IsSize : ℕ → ℕ → Type 0

@@ -6,14 +6,20 @@
 #![tactic(auto)]
 
 pub mod centres;
+pub mod laws;
+mod lengths;
 pub mod markers;
 mod measures;
 pub mod parity;
 pub mod pens;
+mod range;
 pub mod views;
 
 pub use centres::centre;
 pub use markers::marked;
 pub use parity::inside;
 pub use pens::near;
-pub use views::{ViewError, view_of};
+pub use views::{ViewError, pan, view_of, zoom};
+
+#[cfg(test)]
+mod tests;

@@ -1,10 +1,12 @@
 //! Views made of an extent and a size.
 
-ghost use Rattle.std.specs.Prelude.{◌≡◌, ◌↔◌, ◌+◌, ◌*◌, ◌≤◌, ◌<◌, ◌^◌, max, pos, negsuc, ◌+ℤ◌, ◌-ℤ◌, ◌*ℤ◌, ◌≤ℤ◌, ◌&&◌};
-ghost use Rattle.cv_model.specs.Positions.{IsCoordinate, IsDoubled};
-ghost use Rattle.cv_model.specs.Views.{IsView, ceiling, rise, pixel_side, grid_of};
-ghost use Rattle.cv_geom.specs.Views.{is_size, is_spread, is_doubled, is_in_range, kept, view_of, IsSize, IsNoSize, IsSpread, IsEmpty, LeavesRange};
+ghost use Rattle.std.specs.Prelude.{◌≡◌, ◌↔◌, ◌+◌, ◌≤◌, ◌<◌, ◌^◌, pos, ◌+ℤ◌, ◌-ℤ◌, ◌*ℤ◌, ◌≤ℤ◌, unsigned_abs};
+ghost use Rattle.cv_model.specs.Positions.{IsCoordinate};
+ghost use Rattle.cv_model.specs.Views.{natural, ceiling, rise, pixel_side, grid_of};
+ghost use Rattle.cv_geom.specs.Views.{is_size, is_spread, kept, view_of, moved, pan, scaled_side, resized, zoom, IsSize, IsNoSize, IsSpread, IsEmpty, LeavesRange, IsZoomPart};
 
+use crate::lengths::{half_span, span};
+use crate::range::kept;
 use cv_model::{Extent, View};
 
 /// Why there is no view.
@@ -42,7 +44,98 @@ fn laid_round(extent: Extent, w: u32, h: u32) -> Result<View, ViewError>
     ensures { result ≡ kept (grid_of extent w h) }
 {
     let u = pixel_side(extent, w, h);
-    kept(left(extent, w, u), top(extent, h, u), u as i64, w, h)
+    kept(
+        left(extent, half_span(w, u)),
+        top(extent, half_span(h, u)),
+        u,
+        w,
+        h,
+    )
+}
+
+/// A view moved by so many of its pixels: by `dx` eastwards and by `dy` southwards.
+pub fn pan(view: &View, dx: i32, dy: i32) -> Result<View, ViewError>
+    ensures answer { result ≡ pan view.now dx dy }
+    ensures range { (result ≡ Err ViewError.Range) ↔ LeavesRange (moved view.now dx dy) }
+{
+    kept(
+        moved_left(view, dx),
+        moved_top(view, dy),
+        view.u,
+        view.w,
+        view.h,
+    )
+}
+
+/// The left edge of a view moved eastwards by so many of its pixels.
+fn moved_left(view: &View, dx: i32) -> i128
+    ensures { result ≡ view.now.lx2 +ℤ pos 2 *ℤ dx *ℤ view.now.u }
+{
+    i128::from(view.lx2) + span(i64::from(dx), view.u)
+}
+
+/// The top edge of a view moved southwards by so many of its pixels.
+fn moved_top(view: &View, dy: i32) -> i128
+    ensures { result ≡ view.now.ty2 -ℤ pos 2 *ℤ dy *ℤ view.now.u }
+{
+    i128::from(view.ty2) - span(i64::from(dy), view.u)
+}
+
+/// A view with pixels `num / den` times as long, rounded upwards, round the same middle.
+pub fn zoom(view: &View, num: u32, den: u32) -> Result<View, ViewError>
+    requires num_in { IsZoomPart num }
+    requires den_in { IsZoomPart den }
+    ensures answer { result ≡ zoom view.now num den }
+    ensures range { (result ≡ Err ViewError.Range)
+        ↔ LeavesRange (resized view.now (pos (scaled_side view.now.u num den))) }
+{
+    resized(view, scaled_side(view, num, den))
+}
+
+/// The view with pixels of this side round the same middle, if that stays in range.
+fn resized(view: &View, u: i64) -> Result<View, ViewError>
+    requires { pos 1 ≤ℤ u }
+    ensures { result ≡ kept (resized view.now u) }
+{
+    kept(
+        resized_left(view, u),
+        resized_top(view, u),
+        u,
+        view.w,
+        view.h,
+    )
+}
+
+/// The left edge of a view with pixels of this side round the same middle.
+fn resized_left(view: &View, u: i64) -> i128
+    ensures { result ≡ view.now.lx2 +ℤ pos view.now.w *ℤ view.now.u -ℤ pos view.now.w *ℤ u }
+{
+    i128::from(view.lx2) + half_span(view.w, view.u) - half_span(view.w, u)
+}
+
+/// The top edge of a view with pixels of this side round the same middle.
+fn resized_top(view: &View, u: i64) -> i128
+    ensures { result ≡ view.now.ty2 -ℤ pos view.now.h *ℤ view.now.u +ℤ pos view.now.h *ℤ u }
+{
+    i128::from(view.ty2) - half_span(view.h, view.u) + half_span(view.h, u)
+}
+
+/// The side of a view's pixels, `num / den` times as long.
+fn scaled_side(view: &View, num: u32, den: u32) -> i64
+    requires num_in { IsZoomPart num }
+    requires den_in { IsZoomPart den }
+    ensures value { result ≡ pos (scaled_side view.now.u num den) }
+    ensures unit { pos 1 ≤ℤ result }
+{
+    1.max(ceiling(side(view) * u64::from(num), u64::from(den))) as i64
+}
+
+/// The side of a view's pixels.
+fn side(view: &View) -> u64
+    ensures value { result ≡ natural view.now.u }
+    ensures bound { result ≤ 4000000000000000 }
+{
+    view.u as u64
 }
 
 /// Whether a view may have this many pixels from left to right and from top to bottom.
@@ -59,17 +152,16 @@ fn is_spread(extent: Extent) -> bool
     extent.xmin < extent.xmax && extent.ymin < extent.ymax
 }
 
-/// The millionths of a pixel's side at which the pixels span an extent.
-fn pixel_side(extent: Extent, w: u32, h: u32) -> u64
+/// The side of a pixel at which so many of them span an extent.
+fn pixel_side(extent: Extent, w: u32, h: u32) -> i64
     requires wide { 1 ≤ w }
     requires high { 1 ≤ h }
-    ensures value { result ≡ pixel_side extent w h }
-    ensures bound { result < 2 ^ 60 }
-    ensures unit { 1 ≤ result }
+    ensures value { result ≡ pos (pixel_side extent w h) }
+    ensures unit { pos 1 ≤ℤ result }
 {
     let across = share(extent.xmin, extent.xmax, w);
     let down = share(extent.ymin, extent.ymax, h);
-    1.max(across.max(down))
+    1.max(across.max(down)) as i64
 }
 
 /// How many millionths each of these pixels has to span, so that all of them reach from one coordinate to another.
@@ -80,8 +172,7 @@ fn share(from: i64, to: i64, pixels: u32) -> u64
     ensures value { result ≡ ceiling (rise from to) pixels }
     ensures bound { result < 2 ^ 60 }
 {
-    let pixels = u64::from(pixels);
-    (rise(from, to) + (pixels - 1)) / pixels
+    ceiling(rise(from, to), u64::from(pixels))
 }
 
 /// How far one coordinate lies above another, or 0.
@@ -94,103 +185,28 @@ fn rise(from: i64, to: i64) -> u64
     if from < to { (to - from) as u64 } else { 0 }
 }
 
-/// The millionths that this many pixels span.
-fn product(pixels: u32, u: u64) -> i128
-    ensures value { result ≡ pos (pixels * u) }
-    ensures bound { pixels * u < 2 ^ 96 }
+/// A quotient, rounded upwards.
+fn ceiling(n: u64, d: u64) -> u64
+    requires some { 1 ≤ d }
+    requires room { n + d < 2 ^ 63 }
+    ensures value { result ≡ ceiling n d }
+    ensures bound { result < n + d }
 {
-    i128::from(pixels) * i128::from(u)
+    (n + (d - 1)) / d
 }
 
-/// The left edge of so many pixels that have an extent in their middle.
-fn left(extent: Extent, w: u32, u: u64) -> i128
-    ensures { result ≡ extent.xmin +ℤ extent.xmax -ℤ pos (w * u) }
+/// The left edge of a view with an extent in its middle, half of whose width is this.
+fn left(extent: Extent, half: i128) -> i128
+    requires { unsigned_abs half ≤ 2 ^ 96 }
+    ensures { result ≡ extent.xmin +ℤ extent.xmax -ℤ half }
 {
-    i128::from(extent.xmin) + i128::from(extent.xmax) - product(w, u)
+    i128::from(extent.xmin) + i128::from(extent.xmax) - half
 }
 
-/// The top edge of so many pixels that have an extent in their middle.
-fn top(extent: Extent, h: u32, u: u64) -> i128
-    ensures { result ≡ extent.ymin +ℤ extent.ymax +ℤ pos (h * u) }
+/// The top edge of a view with an extent in its middle, half of whose height is this.
+fn top(extent: Extent, half: i128) -> i128
+    requires { unsigned_abs half ≤ 2 ^ 96 }
+    ensures { result ≡ extent.ymin +ℤ extent.ymax +ℤ half }
 {
-    i128::from(extent.ymin) + i128::from(extent.ymax) + product(h, u)
-}
-
-/// The view of these parts, if its edges are in range.
-fn kept(lx2: i128, ty2: i128, u: i64, w: u32, h: u32) -> Result<View, ViewError>
-    requires unit { pos 1 ≤ℤ u }
-    requires wide { 1 ≤ w }
-    requires high { 1 ≤ h }
-    ensures { result ≡ kept (record { lx2 = lx2; ty2 = ty2; u = u; w = w; h = h }) }
-{
-    if is_in_range(lx2, ty2, u, w, h) {
-        Ok(made(lx2, ty2, u, w, h))
-    } else {
-        Err(ViewError::Range)
-    }
-}
-
-/// The view of these parts.
-fn made(lx2: i128, ty2: i128, u: i64, w: u32, h: u32) -> View
-    requires { IsView (record { lx2 = lx2; ty2 = ty2; u = u; w = w; h = h }) }
-    ensures { result ≡ record { lx2 = lx2; ty2 = ty2; u = u; w = w; h = h } }
-{
-    View {
-        lx2: narrowed(lx2),
-        ty2: narrowed(ty2),
-        u,
-        w,
-        h,
-    }
-}
-
-/// Whether all edges of the view of these parts are in range.
-fn is_in_range(lx2: i128, ty2: i128, u: i64, w: u32, h: u32) -> bool
-    ensures { result ≡ is_in_range (record { lx2 = lx2; ty2 = ty2; u = u; w = w; h = h }) }
-{
-    let across = fits_across(lx2, span(w, u));
-    let down = fits_down(ty2, span(h, u));
-    across && down
-}
-
-/// Whether a left edge and the right edge this far from it are in range.
-fn fits_across(lx2: i128, across: i128) -> bool
-    requires low { negsuc (2 ^ 100) ≤ℤ across }
-    requires high { across ≤ℤ pos (2 ^ 100) }
-    ensures { result ≡ (is_doubled lx2 && is_doubled (lx2 +ℤ across)) }
-{
-    is_doubled(lx2) && is_doubled(lx2 + across)
-}
-
-/// Whether a top edge and the bottom edge this far from it are in range.
-fn fits_down(ty2: i128, down: i128) -> bool
-    requires low { negsuc (2 ^ 100) ≤ℤ down }
-    requires high { down ≤ℤ pos (2 ^ 100) }
-    ensures { result ≡ (is_doubled ty2 && is_doubled (ty2 -ℤ down)) }
-{
-    is_doubled(ty2) && is_doubled(ty2 - down)
-}
-
-/// An edge in range, as the view keeps it.
-fn narrowed(edge: i128) -> i64
-    requires { IsDoubled edge }
-    ensures { result ≡ edge }
-{
-    edge as i64
-}
-
-/// Whether a number is a coordinate in doubled millionths.
-fn is_doubled(z: i128) -> bool
-    ensures { result ≡ is_doubled z }
-{
-    -4_000_000_000_000_000 <= z && z <= 4_000_000_000_000_000
-}
-
-/// The doubled millionths that this many pixels span.
-fn span(pixels: u32, u: i64) -> i128
-    ensures value { result ≡ pos (2 * pixels) *ℤ u }
-    ensures low { negsuc (2 ^ 100) ≤ℤ result }
-    ensures high { result ≤ℤ pos (2 ^ 100) }
-{
-    i128::from(2 * u64::from(pixels)) * i128::from(u)
+    i128::from(extent.ymin) + i128::from(extent.ymax) + half
 }
