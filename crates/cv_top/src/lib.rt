@@ -15,3 +15,6 @@ mod words;
 
 pub use ends::{DataError, End, Which};
 pub use top::{run, run_once};
+
+#[cfg(test)]
+mod tests;
