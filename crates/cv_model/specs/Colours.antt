@@ -36,9 +36,13 @@ over s b =
       a = rnd (covered s.a b.a) 255;
     }
 
--- these colours, each laid over those before it, over nothing
+-- these colours in order, each laid over what lies below it
+abbrev pub laid_on : Rgba → List Rgba → Rgba
+laid_on below colours = fold (λ backdrop colour. over colour backdrop) below colours
+
+-- these colours in order, over nothing
 abbrev pub laid : List Rgba → Rgba
-laid colours = fold (λ below colour. over colour below) transparent colours
+laid colours = laid_on transparent colours
 
 -- the blend function of a mode, of a backdrop's channel and a source's
 abbrev pub blended : Blend → ℕ → ℕ → ℕ

@@ -26,8 +26,11 @@ pixels_of w h f = flat_map (row_of w f) (range_with_len 0 h)
 abbrev pub pixel_bytes : Rgb → List ℕ
 pixel_bytes c = c.r ∷ c.g ∷ c.b ∷ []
 
--- the bytes of a picture in the portable pixmap format, its form P6 with greatest value 255
+-- what stands in front of the pixels: `P6`, the size and the greatest value 255
+abbrev pub ppm_header : ℕ → ℕ → List ℕ
+ppm_header width height =
+    (80 ∷ 54 ∷ 10 ∷ []) ++ (decimal width ++ ((32 ∷ []) ++ (decimal height ++ (10 ∷ 50 ∷ 53 ∷ 53 ∷ 10 ∷ []))))
+
+-- the bytes of a picture in the portable pixmap format, its form P6 (the Netpbm project's PPM)
 unfoldable pub ppm_of : Raster Rgb → List ℕ
-ppm_of image =
-    (80 ∷ 54 ∷ 10 ∷ []) ++ decimal image.width ++ (32 ∷ []) ++ decimal image.height
-    ++ (10 ∷ 50 ∷ 53 ∷ 53 ∷ 10 ∷ []) ++ flat_map pixel_bytes image.pixels
+ppm_of image = ppm_header image.width image.height ++ flat_map pixel_bytes image.pixels

@@ -1,5 +1,5 @@
 //! A list of items, for all types that are seen as a list alone.
-ghost use Rattle.std.specs.Prelude.{◌≡◌, ◌++◌, ◌∷◌, [], length, OnOk, IfOk, IfErr, slice_get};
+ghost use Rattle.std.specs.Prelude.{◌≡◌, ◌++◌, ◌∷◌, [], length, OnOk, OnErr, IfOk, IfErr, slice_get};
 ghost use Rattle.std.specs.Option.{option_copied};
 
 use crate::NoMemory;
@@ -47,6 +47,17 @@ impl<T> Sequence<T> {
             Ok(()) => Ok(()),
             Err(refused) => Err((refused.value, std::alloc::AllocError)),
         }
+    }
+
+    /// Puts an item behind the others. A refusal drops it and changes nothing.
+    pub fn put(&mut self, item: T) -> Result<(), NoMemory>
+    where
+        T: Drop,
+        ensures ok { OnOk result (self.new ≡ self.old ++ item ∷ []) }
+        ensures err { OnErr result (self.new ≡ self.old) }
+    {
+        self.items.push(item)?;
+        Ok(())
     }
 
     /// The item at a place.

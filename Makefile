@@ -1,0 +1,11 @@
+# Two commands for a fresh machine with the Rattle kit's `rt` on the path:
+#   make first-map    builds the program and paints examples/first-map into first-map.ppm
+#   make test         passes all proofs, edits that must fail, tests and programs
+
+.PHONY: first-map test
+
+first-map:
+	cd crates/canvas && rt run -- quick ../../examples/first-map/lakes.csv ../../first-map.ppm 640 448 0 0 320 224 3b76a8
+
+test:
+	.ci/run

@@ -1,0 +1,59 @@
+//! The program: the real files and standard output behind the top call.
+#![tactic(auto)]
+
+mod files;
+mod output;
+
+use crate::files::{FileShelf, FileTray};
+use crate::output::Output;
+use cv_model::{Sequence, Text};
+use cv_outside::Open;
+use cv_top::{End, run};
+use std::alloc::{AllocError, Global};
+use std::process::ExitCode;
+use std::{env, io};
+
+/// What standard error gets behind the line `usage`: the forms of the commands, one a line.
+const FORMS: &str = "quick <csv> <out> <w> <h> <xmin> <ymin> <xmax> <ymax> <rrggbb>";
+
+/// The words behind the program's name. A word that isn't UTF-8 makes none of them a form.
+fn words<R: env::Env + AllocGlobal>(rt: &R) -> Result<Sequence<Text>, End> {
+    let alloc = rt.alloc();
+    let given = env::args(rt).map_err(|error| unread(error.kind()))?;
+    let mut words = Sequence::new(alloc);
+    for word in given.skip(1) {
+        let word = Text::of(alloc, word.as_str()).map_err(|_| End::NoMemory)?;
+        words.put(word).map_err(|_| End::NoMemory)?;
+    }
+    Ok(words)
+}
+
+/// How a program ends whose words can't be read.
+fn unread(kind: io::ErrorKind) -> End {
+    match kind {
+        io::ErrorKind::OutOfMemory => End::NoMemory,
+        _ => End::Usage,
+    }
+}
+
+fn main(rt: HostRuntime) -> ExitCode {
+    let end = match words(&rt) {
+        Ok(words) => run(
+            &rt,
+            rt.alloc(),
+            words.as_slice(),
+            &mut FileShelf::new(&rt),
+            &mut FileTray::new(&rt),
+            &mut Output::new(io::writer(&rt)),
+            &Open,
+        ),
+        Err(end) => end,
+    };
+    if end != End::Done {
+        let _ = eprintln!(&rt; "{end}");
+    }
+    if end == End::Usage {
+        let _ = eprintln!(&rt; "{FORMS}");
+    }
+    ExitCode::from(end.status())
+}

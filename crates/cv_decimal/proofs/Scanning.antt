@@ -1,0 +1,28 @@
+-- The loop over the bytes of a decimal, and what its answer says.
+use Rattle.std.proofs.Common.{◌≡◌, ℕ, ◌<◌, ◌≤◌, List, drop, length, sym, ap, subst}
+use Rattle.std.specs.Result.{result_ok}
+use Rattle.cv_reading.specs.Machines.{run, further_by}
+use Rattle.cv_reading.specs.Readings.{IsReading}
+use Rattle.cv_decimal.specs.declared.kept.Kept.{Kept}
+use Rattle.cv_decimal.specs.declared.place.Place.{Place}
+use Rattle.cv_decimal.specs.declared.place.Place.TheVariants.{Start}
+use Rattle.cv_decimal.specs.Spellings.{Spells}
+use Rattle.cv_decimal.specs.Reader.{decimal_of}
+use Rattle.cv_decimal.specs.Keeping.{keeping_reader, nothing_kept}
+use Rattle.cv_decimal.proofs.Values.{decimal_reads}
+use Rattle.cv_decimal.proofs.Keepings.{keeping_is}
+
+-- behind i bytes: the counts are at most i, and the bytes left give the answer of the whole text
+pub record Along (text : List ℕ) (place : Place) (kept : Kept) (i : ℕ) : Type 0 where
+  pub digits : kept.digits < 2000000000000000000
+  pub dropped : kept.dropped ≤ i
+  pub places : kept.places ≤ i
+  pub same : run keeping_reader text (record { place = Start; parts = nothing_kept }) ≡ further_by i (run keeping_reader (drop i text) (record { place = place; parts = kept }))
+
+-- the loop's answer is the value of the text, or its first wrong place
+pub keeping_reads : (text : List ℕ) → length text < 9223372036854775808 → IsReading Spells text (run keeping_reader text (record { place = Start; parts = nothing_kept }))
+keeping_reads text few = subst (IsReading Spells text) (keeping_is text few) (decimal_reads text)
+
+pub keeping_exact : (text : List ℕ) → length text < 9223372036854775808 → result_ok (run keeping_reader text (record { place = Start; parts = nothing_kept })) ≡ decimal_of text
+unfolding decimal_of
+keeping_exact text few = sym (ap result_ok (keeping_is text few))

@@ -1,0 +1,46 @@
+-- What is kept of the numbers while they are read: 18 digits, two counts, and an exponent up to 2^64 - 1.
+use Rattle.std.specs.Prelude.{ℕ, ◌+◌, ◌-◌, ◌*◌, ◌^◌, min, true, false, nat_lt, nat_le, ◌==◌, if◌then◌else◌}
+use Rattle.cv_model.specs.Rounding.{rnd}
+use Rattle.cv_reading.specs.Machines.{Machine}
+use Rattle.cv_decimal.specs.declared.kept.Kept.{Kept}
+use Rattle.cv_decimal.specs.declared.place.Role.{Role}
+use Rattle.cv_decimal.specs.declared.place.Role.TheVariants.{Form, Negative, WholeDigit, RestDigit, Lowering, PowerDigit}
+use Rattle.cv_decimal.specs.declared.fixed.Fixed.{Fixed}
+use Rattle.cv_decimal.specs.Spellings.{fixed}
+use Rattle.cv_decimal.specs.Reader.{At, going}
+
+-- one digit more: behind 18 digits it is only counted
+abbrev pub with_digit : ℕ → Kept → Kept
+with_digit d k =
+    if nat_lt k.digits 100000000000000000 then record k { digits = 10 * k.digits + d } else record k { dropped = k.dropped + 1 }
+
+abbrev pub kept_role : Role → Kept → Kept
+kept_role Form k = k
+kept_role Negative k = record k { negative = true }
+kept_role (WholeDigit d) k = with_digit d k
+kept_role (RestDigit d) k = record (with_digit d k) { places = k.places + 1 }
+kept_role Lowering k = record k { lowers = true }
+kept_role (PowerDigit d) k = record k { power = min (10 * k.power + d) 18446744073709551615 }
+
+-- digits * 10^high / 10^low, rounded, or 10^15 + 1 where it is above that
+unfoldable pub settled : ℕ → ℕ → ℕ → ℕ
+settled digits high low =
+    if nat_le (low + 16) high then (if digits == 0 then 0 else 1000000000000001)
+    else if nat_le low high then min (digits * 10 ^ (high - low)) 1000000000000001
+    else if nat_le (high + 19) low then 0
+    else min (rnd digits (10 ^ (low - high))) 1000000000000001
+
+abbrev pub high : Kept → ℕ
+high k = k.dropped + 6 + (if k.lowers then 0 else k.power)
+
+abbrev pub low : Kept → ℕ
+low k = k.places + (if k.lowers then k.power else 0)
+
+abbrev pub kept_worth : Kept → Fixed
+kept_worth k = fixed k.negative (settled k.digits (high k) (low k))
+
+abbrev pub nothing_kept : Kept
+nothing_kept = record { negative = false; digits = 0; dropped = 0; places = 0; lowers = false; power = 0 }
+
+abbrev pub keeping_reader : Machine (At Kept) ℕ Fixed
+keeping_reader = going kept_role kept_worth

@@ -1,0 +1,154 @@
+//! What is kept of a decimal's numbers while it is read.
+ghost use Rattle.std.specs.Prelude.{◌≡◌, ◌*◌, ◌^◌, ◌<◌, min};
+ghost use Rattle.cv_model.specs.Rounding.{rnd};
+ghost use Rattle.cv_decimal.specs.Spellings.{fixed};
+ghost use Rattle.cv_decimal.specs.Keeping.{with_digit, kept_role, settled, kept_worth, nothing_kept};
+
+use crate::fixed::Fixed;
+use crate::place::Role;
+
+/// The largest value, 10^15 millionths.
+const LIMIT: u64 = 1_000_000_000_000_000;
+
+/// The first digits of a number, how many digits more there were, how many of all stand behind the
+/// point, and the exponent, or 2^64 - 1 where it is larger.
+#[derive(Clone, Copy)]
+pub struct Kept {
+    negative: bool,
+    digits: u64,
+    dropped: u64,
+    places: u64,
+    lowers: bool,
+    power: u64,
+}
+
+impl Kept {
+    pub fn nothing() -> Kept
+        ensures { result ≡ nothing_kept }
+    {
+        Kept {
+            negative: false,
+            digits: 0,
+            dropped: 0,
+            places: 0,
+            lowers: false,
+            power: 0,
+        }
+    }
+
+    fn with_digit(self, digit: u8) -> Kept
+        requires dropped { self.dropped < 2 ^ 63 }
+        ensures { result ≡ with_digit digit self }
+    {
+        if self.digits < 100_000_000_000_000_000 {
+            Kept {
+                digits: 10 * self.digits + u64::from(digit),
+                ..self
+            }
+        } else {
+            Kept {
+                dropped: self.dropped + 1,
+                ..self
+            }
+        }
+    }
+
+    /// With what a mark says.
+    pub fn with(self, role: Role) -> Kept
+        requires dropped { self.dropped < 2 ^ 63 }
+        requires places { self.places < 2 ^ 63 }
+        ensures { result ≡ kept_role role self }
+    {
+        match role {
+            Role::Form => self,
+            Role::Negative => Kept {
+                negative: true,
+                ..self
+            },
+            Role::WholeDigit(digit) => self.with_digit(digit),
+            Role::RestDigit(digit) => Kept {
+                places: self.places + 1,
+                ..self.with_digit(digit)
+            },
+            Role::Lowering => Kept {
+                lowers: true,
+                ..self
+            },
+            Role::PowerDigit(digit) => Kept {
+                power: self
+                    .power
+                    .saturating_mul(10)
+                    .saturating_add(u64::from(digit)),
+                ..self
+            },
+        }
+    }
+
+    /// What the numbers are worth.
+    pub fn worth(self) -> Fixed
+        requires digits { self.digits < 2000000000000000000 }
+        requires dropped { self.dropped < 2 ^ 63 }
+        requires places { self.places < 2 ^ 63 }
+        ensures { result ≡ kept_worth self }
+    {
+        let power = u128::from(self.power);
+        let (up, down) = if self.lowers { (0, power) } else { (power, 0) };
+        let high = u128::from(self.dropped) + 6 + up;
+        let low = u128::from(self.places) + down;
+        signed(self.negative, millionths(self.digits, high, low))
+    }
+}
+
+/// `digits` times 10^`high` over 10^`low`, or the limit and one where it is above the limit.
+#[tactic(auto, unfolding(crate::specs::Keeping::settled))]
+fn millionths(digits: u64, high: u128, low: u128) -> u64
+    requires digits { digits < 2000000000000000000 }
+    requires high { high < 2 ^ 100 }
+    requires low { low < 2 ^ 100 }
+    ensures { result ≡ settled digits high low }
+{
+    if high >= low + 16 {
+        if digits == 0 { 0 } else { LIMIT + 1 }
+    } else if high >= low {
+        capped(raised(digits, (high - low) as u32))
+    } else if low >= high + 19 {
+        0
+    } else {
+        capped(divided(digits, (low - high) as u32))
+    }
+}
+
+fn capped(n: u128) -> u64
+    ensures { result ≡ min n 1000000000000001 }
+{
+    n.min(u128::from(LIMIT + 1)) as u64
+}
+
+fn raised(digits: u64, power: u32) -> u128
+    requires digits { digits < 2000000000000000000 }
+    requires power { power < 16 }
+    ensures { result ≡ digits * 10 ^ power }
+{
+    u128::from(digits) * 10u128.pow(power)
+}
+
+/// Rounds a half upwards.
+fn divided(digits: u64, power: u32) -> u128
+    requires digits { digits < 2000000000000000000 }
+    requires power { power < 19 }
+    ensures { result ≡ rnd digits (10 ^ power) }
+{
+    let unit = 10u128.pow(power);
+    (2 * u128::from(digits) + unit) / (2 * unit)
+}
+
+fn signed(negative: bool, millionths: u64) -> Fixed
+    ensures { result ≡ fixed negative millionths }
+{
+    if millionths > LIMIT {
+        if negative { Fixed::Low } else { Fixed::High }
+    } else {
+        let value = millionths as i64;
+        Fixed::Value(if negative { -value } else { value })
+    }
+}

@@ -1,0 +1,74 @@
+//! Decimals, read and written in whole millionths.
+//!
+//! Contract: `read` answers the value that the grammar spells, all digits taken as one number and
+//! rounded half away from zero, and else the first byte that can't stand; `write` gives the written
+//! form, which `read` reads back. Definitions: `Spellings`, `Written`, and as a machine `Reader`.
+//! `read` takes no memory, goes over the text once and keeps 18 digits, whatever the lengths.
+#![tactic(auto)]
+
+ghost use Rattle.std.specs.Prelude.{◌≡◌, ◌↔◌, ℕ, ℤ, [], IfOk, string_bytes};
+ghost use Rattle.cv_model.specs.Positions.{IsCoordinate};
+ghost use Rattle.std.specs.Result.{result_ok};
+ghost use Rattle.cv_decimal.specs.Spellings.{Spells, IsBadByte, IsInRange};
+ghost use Rattle.cv_decimal.specs.Reader.{decimal_of};
+ghost use Rattle.cv_decimal.specs.Written.{written};
+
+mod fixed;
+mod kept;
+mod mark;
+mod place;
+mod scan;
+mod written;
+
+pub use fixed::{DecimalError, Fixed};
+use std::alloc::{AllocError, Global};
+
+/// The value of a decimal, rounded half away from zero to whole millionths.
+///
+/// The grammar is this project's own: an optional `+` or `-`, then `nan` in any case, or a mantissa
+/// and an optional exponent. The mantissa is digits, or digits and a point, or digits, a point and
+/// digits, or a point and digits. The exponent is `e` or `E`, an optional sign, and digits.
+#[tactic(auto, unfolding(crate::specs::Reader::decimal_of))]
+pub fn read(text: &[u8]) -> Result<Fixed, DecimalError>
+    ensures found { IfOk result (Spells text.now) }
+    ensures only { (v : Fixed) → Spells text.now v → result ≡ Ok v }
+
+    // From -10^15 to 10^15, so that a value may be a point's coordinate.
+    ensures range { IfOk result IsInRange }
+    ensures empty { (result ≡ Err DecimalError.Empty) ↔ (text.now ≡ []) }
+    ensures fault { (at : ℕ) → (result ≡ Err (DecimalError.BadByte at)) ↔ IsBadByte text.now at }
+
+    // The same as a function, for readers of tokens.
+    ensures exact { result_ok result ≡ decimal_of text.now }
+{
+    if text.is_empty() {
+        return Err(DecimalError::Empty);
+    }
+    match scan::scan(text) {
+        Ok(value) => Ok(value),
+        Err(at) => Err(DecimalError::BadByte(at)),
+    }
+}
+
+/// The written form of a number of millionths: `-` if negative, the whole part without leading zeros,
+/// and, where the rest isn't zero, a point and the rest without trailing zeros.
+#[tactic(auto, unfolding(crate::specs::Written::written))]
+pub fn write(alloc: Global, millionths: i64) -> Result<String, AllocError>
+    ensures { IfOk result (λ text. string_bytes text ≡ written millionths) }
+{
+    let mut text = String::new(alloc);
+    if millionths < 0 {
+        text.push('-')?;
+    }
+    written::push_size(&mut text, millionths.unsigned_abs())?;
+    Ok(text)
+}
+
+/// What is written is read back: the written form of a number in the range of values spells that value.
+pub fn written_is_read()
+    ensures spelt { (z : ℤ) → IsCoordinate z → Spells (written z) (Fixed.Value z) }
+    ensures exact { (z : ℤ) → IsCoordinate z → decimal_of (written z) ≡ Some (Fixed.Value z) }
+{}
+
+#[cfg(test)]
+mod tests;

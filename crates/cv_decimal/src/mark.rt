@@ -1,0 +1,33 @@
+//! The marks that a decimal consists of.
+ghost use Rattle.std.specs.Prelude.{◌≡◌};
+ghost use Rattle.cv_decimal.specs.Marks.{mark_of};
+
+/// What a byte stands for in a decimal. Letters are read in any case.
+#[derive(Clone, Copy)]
+pub enum Mark {
+    Digit(u8),
+    Point,
+    Plus,
+    Minus,
+    LetterE,
+    LetterN,
+    LetterA,
+    Other,
+}
+
+impl Mark {
+    pub fn of(byte: u8) -> Mark
+        ensures { result ≡ mark_of byte }
+    {
+        match byte {
+            b'0'..=b'9' => Mark::Digit(byte - b'0'),
+            b'.' => Mark::Point,
+            b'+' => Mark::Plus,
+            b'-' => Mark::Minus,
+            b'e' | b'E' => Mark::LetterE,
+            b'n' | b'N' => Mark::LetterN,
+            b'a' | b'A' => Mark::LetterA,
+            _ => Mark::Other,
+        }
+    }
+}

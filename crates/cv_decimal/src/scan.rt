@@ -1,0 +1,27 @@
+//! The loop over a decimal's bytes.
+ghost use Rattle.std.specs.Prelude.{◌≡◌};
+ghost use Rattle.cv_reading.specs.Machines.{run};
+ghost use Rattle.cv_decimal.specs.Keeping.{keeping_reader, nothing_kept};
+
+use crate::fixed::Fixed;
+use crate::kept::Kept;
+use crate::mark::Mark;
+use crate::place::Place;
+
+/// The value of a text, or how many bytes stand before the first that can't.
+pub fn scan(text: &[u8]) -> Result<Fixed, u64>
+    ensures { result ≡ run keeping_reader text.now (record { place = Place.Start; parts = nothing_kept }) }
+{
+    let mut place = Place::Start;
+    let mut kept = Kept::nothing();
+    for (at, byte) in text.iter().enumerate() {
+        match place.next(Mark::of(*byte)) {
+            Some(found) => {
+                place = found.0;
+                kept = kept.with(found.1);
+            }
+            None => return Err(at as u64),
+        }
+    }
+    place.worth(kept.worth()).ok_or(text.len() as u64)
+}

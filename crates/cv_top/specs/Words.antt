@@ -1,0 +1,71 @@
+-- The words of `quick`.
+use Rattle.std.specs.Prelude.{◌≡◌, ℕ, ◌≤◌, List, [], ◌∷◌, length, take, drop, Ok, codes}
+use Rattle.std.specs.Str.Parse.{AllDigits, IsNumeral, digits_value}
+use Rattle.cv_model.specs.declared.colour.Rgb.{Rgb}
+use Rattle.cv_model.specs.Positions.{Rectangle}
+use Rattle.cv_model.specs.Views.{PixelGrid}
+use Rattle.cv_geom.specs.Views.{view_of}
+use Rattle.cv_wkt.specs.PlainForm.{IsPlainNumber}
+
+-- one to ten digits of this value
+pub record IsCount (word : List ℕ) (n : ℕ) : Type 0 where
+  pub numeral : IsNumeral 10 word
+  pub few : length word ≤ 10
+  pub value : digits_value 10 word ≡ n
+
+-- the two hexadecimal digits at a place, as a channel
+abbrev pub channel_at : List ℕ → ℕ → ℕ
+channel_at word at = digits_value 16 (take 2 (drop at word))
+
+-- six hexadecimal digits, in either case: red, green and blue
+pub record IsColour (word : List ℕ) (c : Rgb) : Type 0 where
+  pub six : length word ≡ 6
+  pub digits : AllDigits 16 word
+  pub red : channel_at word 0 ≡ c.r
+  pub green : channel_at word 2 ≡ c.g
+  pub blue : channel_at word 4 ≡ c.b
+
+-- four words are the numbers of an extent, in millionths
+pub record IsExtentOf (xmin ymin xmax ymax : List ℕ) (e : Rectangle) : Type 0 where
+  pub west : IsPlainNumber xmin e.xmin
+  pub south : IsPlainNumber ymin e.ymin
+  pub east : IsPlainNumber xmax e.xmax
+  pub north : IsPlainNumber ymax e.ymax
+
+-- what the words of `quick` ask for: the file to read, the picture to write, its view, and the fill
+pub record QuickOrder : Type 0 where
+  pub csv : List ℕ
+  pub out : List ℕ
+  pub view : PixelGrid
+  pub fill : Rgb
+
+-- two words are a size at which the extent gives the view
+pub record IsViewOf (w h : List ℕ) (e : Rectangle) (view : PixelGrid) : Type 0 where
+  pub width : IsCount w view.w
+  pub height : IsCount h view.h
+  pub gives : view_of e view.w view.h ≡ Ok view
+
+-- seven words are a size, an extent and a colour, which give the view and the fill
+pub record IsPlan (w h xmin ymin xmax ymax colour : List ℕ) (view : PixelGrid) (fill : Rgb) : Type 0 where
+  pub extent : Rectangle
+  pub extent_is : IsExtentOf xmin ymin xmax ymax extent
+  pub view_is : IsViewOf w h extent view
+  pub fill_is : IsColour colour fill
+
+-- the words are `quick` and the nine words of this order
+pub record IsQuick (words : List (List ℕ)) (order : QuickOrder) : Type 0 where
+  pub w : List ℕ
+  pub h : List ℕ
+  pub xmin : List ℕ
+  pub ymin : List ℕ
+  pub xmax : List ℕ
+  pub ymax : List ℕ
+  pub colour : List ℕ
+  pub spelled :
+      words
+      ≡ codes "quick" ∷ order.csv ∷ order.out ∷ w ∷ h ∷ xmin ∷ ymin ∷ xmax ∷ ymax ∷ colour ∷ []
+  pub plan : IsPlan w h xmin ymin xmax ymax colour order.view order.fill
+
+-- the words are no form of a command
+abbrev pub IsNoForm : List (List ℕ) → Type 0
+IsNoForm words = (order : QuickOrder) → IsQuick words order → ⊥

@@ -1,0 +1,300 @@
+//! The command over devices in memory: worked maps, each device failing in turn, and words that are no form.
+use super::*;
+use cv_model::{NoMemory, Sequence, Text};
+use cv_outside::{
+    MemShelf, MemSink, MemTray, Open, Shelf, Sink, SureShelf, SureSink, SureTray, Tray,
+};
+use std::alloc::{AllocError, Global};
+use std::collections::BTreeMap;
+use std::sync::Wait;
+use std::test::Fail;
+use std::thread::Threads;
+
+type Files = BTreeMap<String, Vec<u8>>;
+
+const SQUARE: &str = "wkt\n\"POLYGON((1 1,3 1,3 3,1 3,1 1))\"\n";
+
+const FOUR: &str = "quick sq.csv sq.ppm 4 4 0 0 4 4 ff0000";
+
+const ALL: u64 = u64::MAX;
+
+// A map of one file, or of none where its name is empty.
+fn files(alloc: Global, name: &str, text: &str) -> Result<Files, AllocError> {
+    let mut files = BTreeMap::new(alloc);
+    if !name.is_empty() {
+        let bytes = Vec::from_slice(alloc, text.as_bytes())?;
+        files.insert(String::from_str(alloc, name)?, bytes)?;
+    }
+    Ok(files)
+}
+
+// The words of a line, between single spaces.
+fn words(alloc: Global, line: &str) -> Result<Sequence<Text>, NoMemory> {
+    let mut words = Sequence::new(alloc);
+    for word in line.split(' ') {
+        words.put(Text::of(alloc, word)?)?;
+    }
+    Ok(words)
+}
+
+// The pixmap of these rows, with `/` between them: `#` is red, `.` white.
+fn pixmap(alloc: Global, rows: &str, size: &str) -> Result<Vec<u8>, AllocError> {
+    let mut bytes = Vec::from_slice(alloc, b"P6\n")?;
+    bytes.extend_from_slice(size.as_bytes())?;
+    bytes.extend_from_slice(b"\n255\n")?;
+    for pixel in rows.as_bytes() {
+        if *pixel != b'/' {
+            let rest = if *pixel == b'#' { 0 } else { 255 };
+            bytes.extend_from_slice(&[255, rest, rest])?;
+        }
+    }
+    Ok(bytes)
+}
+
+// The bytes of a file, or of no file.
+fn bytes_of<'a>(files: &'a Files, name: &str) -> &'a [u8] {
+    match files.get(name) {
+        Some(bytes) => bytes,
+        None => b"-",
+    }
+}
+
+// The command at these types, through its bounds.
+fn play<F: Shelf, T: Tray, O: Sink>(
+    alloc: Global,
+    line: &str,
+    shelf: &mut F,
+    tray: &mut T,
+    out: &mut O,
+) -> End {
+    match words(alloc, line) {
+        Ok(words) => run_once(alloc, words.as_slice(), shelf, tray, out),
+        Err(_) => End::NoMemory,
+    }
+}
+
+// The same with a handle and a gate.
+fn play_with<R: Threads + Wait + Sync, F: Shelf, T: Tray + Send, O: Sink>(
+    rt: &R,
+    alloc: Global,
+    line: &str,
+    shelf: &mut F,
+    tray: &mut T,
+    out: &mut O,
+) -> End {
+    match words(alloc, line) {
+        Ok(words) => run(rt, alloc, words.as_slice(), shelf, tray, out, &Open),
+        Err(_) => End::NoMemory,
+    }
+}
+
+#[test]
+fn polygons_are_painted_at_their_centres(rt: HostRuntime) -> Result<(), Fail> {
+    let alloc = rt.alloc();
+    let square = "..../.##./.##./....";
+    let holed = "####/####/..##/####";
+    let all = "####/####/####/####";
+    let rows = [
+        (SQUARE, square),
+        (
+            "wkt\n\"POLYGON((0 0,4 0,4 4,0 4,0 0),(1.5 0.5,2.5 1.5,1.5 2.5,0.5 1.5,1.5 0.5))\"\n",
+            holed,
+        ),
+        (
+            "wkt\n\"POLYGON((0 0,4 0,4 4,0 4),(0 1,2 1,2 2,0 2))\"\n",
+            holed,
+        ),
+        (
+            "wkt\n\"POLYGON((0 3,4 3,0 4))\"\n\"POLYGON((-0.5 -1,2 -1,2 1,-0.5 1))\"\n",
+            "##../..../..../##..",
+        ),
+        ("wkt\n\"POLYGON((-9 -9,9 -9,9 9,-9 9,-9 -9))\"\n", all),
+        (
+            "wkt\n\"POLYGON((2 -9,999999999.999999 2,2 9,-999999999 2))\"\n",
+            all,
+        ),
+        ("wkt\n", "..../..../..../...."),
+    ];
+    for (text, picture) in rows {
+        let mut shelf = SureShelf::new(alloc, files(alloc, "sq.csv", text)?);
+        let mut tray = SureTray::new(alloc, files(alloc, "", "")?);
+        let mut out = SureSink::new(Vec::new(alloc));
+        let end = play(alloc, FOUR, &mut shelf, &mut tray, &mut out);
+        assert_eq!(rt; end, End::Done, "{text}");
+        assert_eq!(rt; out.bytes(), b"image 4 4\n".as_slice(), "{text}");
+        let want = pixmap(alloc, picture, "4 4")?;
+        assert_eq!(rt; bytes_of(tray.files(), "sq.ppm"), want.as_slice(), "{text}");
+    }
+    Ok(())
+}
+
+#[test]
+fn text_in_another_form_is_bad_data(rt: HostRuntime) -> Result<(), Fail> {
+    let alloc = rt.alloc();
+    let rows = [
+        "",
+        "wkt",
+        "WKT\n",
+        "wkt\n\"POINT(1 2)\"\n",
+        "wkt\n\"POLYGON((1 1,3 1,3 3,1 3,1 1))\"",
+        "wkt\r\n\"POLYGON((1 1,3 1,3 3))\"\r\n",
+        "wkt\nPOLYGON((1 1,3 1,3 3))\n",
+        "wkt\n\"POLYGON((1 1,3 1,3 3))\"\n\n",
+        "wkt\n\"POLYGON((1 1,3 1,3 3)\"\n",
+        "wkt\n\"POLYGON((1 1,3 1,1234567890 3))\"\n",
+        "wkt\n\"POLYGON((1 1,3 1,3 0.1234567))\"\n",
+    ];
+    for text in rows {
+        let mut shelf = SureShelf::new(alloc, files(alloc, "sq.csv", text)?);
+        let mut tray = SureTray::new(alloc, files(alloc, "sq.ppm", "old")?);
+        let mut out = SureSink::new(Vec::new(alloc));
+        let end = play(alloc, FOUR, &mut shelf, &mut tray, &mut out);
+        assert_eq!(rt; end, End::BadData(0, DataError::NotBuilt), "{text}");
+        assert_eq!(rt;
+            bytes_of(tray.files(), "sq.ppm"),
+            b"old".as_slice(),
+            "{text}"
+        );
+        assert_eq!(rt; out.bytes(), b"".as_slice(), "{text}");
+    }
+    Ok(())
+}
+
+#[test]
+fn each_device_fails_in_turn(rt: HostRuntime) -> Result<(), Fail> {
+    let alloc = rt.alloc();
+    let picture = pixmap(alloc, "..../.##./.##./....", "4 4")?;
+    let (whole, old) = (picture.as_slice(), b"old".as_slice());
+    let (layer, output) = (Which::Layer(0), Which::Output(1));
+    let text = End::WriteFault(Which::Text);
+    // the file's name, the calls that fail, the sink's limits; the end, the picture, the text
+    let rows = [
+        ("sq.csv", 0, 0, 0, ALL, ALL, End::Done, whole, "image 4 4\n"),
+        ("sq.csv", 1, 0, 0, ALL, ALL, End::ReadFault(layer), old, ""),
+        ("other", 0, 0, 0, ALL, ALL, End::Missing(layer), old, ""),
+        (
+            "sq.csv",
+            0,
+            1,
+            0,
+            ALL,
+            ALL,
+            End::WriteFault(output),
+            old,
+            "",
+        ),
+        ("sq.csv", 0, 0, 1, ALL, ALL, text, whole, ""),
+        ("sq.csv", 0, 0, 0, 1, ALL, End::Done, whole, "image 4 4\n"),
+        ("sq.csv", 0, 0, 3, 2, ALL, text, whole, "imag"),
+        ("sq.csv", 0, 0, 0, ALL, 7, text, whole, "image 4"),
+    ];
+    for (name, read, write, print, piece, room, end, kept, printed) in rows {
+        let mut shelf = MemShelf::new(
+            alloc,
+            files(alloc, name, SQUARE)?,
+            Vec::from_slice(alloc, &[read])?,
+        );
+        let mut tray = MemTray::new(
+            alloc,
+            files(alloc, "sq.ppm", "old")?,
+            Vec::from_slice(alloc, &[write])?,
+        );
+        let mut out = MemSink::new(Vec::new(alloc), Vec::from_slice(alloc, &[print])?).with_limits(
+            piece, room,
+        );
+        let found = play_with(&rt, alloc, FOUR, &mut shelf, &mut tray, &mut out);
+        assert_eq!(rt; found, end, "{name} {read} {write} {print} {piece} {room}");
+        assert_eq!(rt; bytes_of(tray.files(), "sq.ppm"), kept, "{end}");
+        assert_eq!(rt; out.bytes(), printed.as_bytes(), "{end}");
+        assert_eq!(rt; shelf.asked().len(), 1, "{end}");
+    }
+    Ok(())
+}
+
+#[test]
+fn words_that_are_no_form_are_usage(rt: HostRuntime) -> Result<(), Fail> {
+    let alloc = rt.alloc();
+    let rows = [
+        "",
+        "quick",
+        "paint p.json 0 out.ppm",
+        "Quick sq.csv sq.ppm 4 4 0 0 4 4 ff0000",
+        "quick sq.csv sq.ppm 4 4 0 0 4 4 ff0000 more",
+        "quick sq.csv sq.ppm 0 4 0 0 4 4 ff0000",
+        "quick sq.csv sq.ppm 4097 4 0 0 4 4 ff0000",
+        "quick sq.csv sq.ppm 4096 4096 0 0 4 4 ff0000",
+        "quick sq.csv sq.ppm 04294967300 4 0 0 4 4 ff0000",
+        "quick sq.csv sq.ppm 4294967300 4 0 0 4 4 ff0000",
+        "quick sq.csv sq.ppm +4 4 0 0 4 4 ff0000",
+        "quick sq.csv sq.ppm 4 4 0 0 0 4 ff0000",
+        "quick sq.csv sq.ppm 4 4 0 4 4 0 ff0000",
+        "quick sq.csv sq.ppm 4 4 0 0 4. 4 ff0000",
+        "quick sq.csv sq.ppm 2 1 -999999999 -999999999 1e3 4 ff0000",
+        "quick sq.csv sq.ppm 4 4 0 0 4 4 ff000",
+        "quick sq.csv sq.ppm 4 4 0 0 4 4 ff00000",
+        "quick sq.csv sq.ppm 4 4 0 0 4 4 gf0000",
+        "quick sq.csv sq.ppm 4 4 0 0 4 4 +f0000",
+    ];
+    for line in rows {
+        let mut shelf = SureShelf::new(alloc, files(alloc, "sq.csv", SQUARE)?);
+        let mut tray = SureTray::new(alloc, files(alloc, "", "")?);
+        let mut out = SureSink::new(Vec::new(alloc));
+        let end = play(alloc, line, &mut shelf, &mut tray, &mut out);
+        assert_eq!(rt; end, End::Usage, "{line}");
+        assert_eq!(rt; shelf.asked().len(), 0, "{line}");
+    }
+    Ok(())
+}
+
+#[test]
+fn forms_of_words_give_their_view_and_fill(rt: HostRuntime) -> Result<(), Fail> {
+    let alloc = rt.alloc();
+    let rows = [
+        ("quick sq.csv sq.ppm 2 1 1 1 3 2 FF0000", "2 1", "##"),
+        (
+            "quick sq.csv sq.ppm 0000000002 1 -1 1 1 2 ff0000",
+            "2 1",
+            "..",
+        ),
+        ("quick sq.csv sq.ppm 3 1 0 1.5 3 2.5 fF0000", "3 1", ".##"),
+        (
+            "quick sq.csv sq.ppm 2 2 0 0.000001 4 4 ff0000",
+            "2 2",
+            "../#.",
+        ),
+    ];
+    for (line, size, rows) in rows {
+        let mut shelf = SureShelf::new(alloc, files(alloc, "sq.csv", SQUARE)?);
+        let mut tray = SureTray::new(alloc, files(alloc, "", "")?);
+        let mut out = SureSink::new(Vec::new(alloc));
+        let end = play(alloc, line, &mut shelf, &mut tray, &mut out);
+        assert_eq!(rt; end, End::Done, "{line}");
+        let want = pixmap(alloc, rows, size)?;
+        assert_eq!(rt; bytes_of(tray.files(), "sq.ppm"), want.as_slice(), "{line}");
+    }
+    Ok(())
+}
+
+#[test]
+fn ends_have_their_texts_and_statuses(rt: HostRuntime) -> Result<(), Fail> {
+    let alloc = rt.alloc();
+    let rows = [
+        (End::Done, 0, ""),
+        (End::NoMemory, 1, "out of memory"),
+        (End::Usage, 2, "usage"),
+        (
+            End::BadData(3, DataError::NotBuilt),
+            4,
+            "bad data in layer 3",
+        ),
+        (End::ReadFault(Which::Layer(0)), 6, "read fault"),
+        (End::WriteFault(Which::Text), 7, "write fault"),
+        (End::Missing(Which::Layer(0)), 8, "file missing"),
+    ];
+    for (end, status, text) in rows {
+        assert_eq!(rt; end.status(), status, "{text}");
+        let printed = format!(in alloc; "{end}")?;
+        assert_eq!(rt; printed.as_str(), text);
+    }
+    Ok(())
+}

@@ -1,0 +1,204 @@
+//! The words of a command, read by hand.
+
+ghost use Rattle.std.specs.Prelude.{◌≡◌, ℕ, ◌≤◌, ◌↔◌, ◌∷◌, [], IfSome, IsSomeAnd, IfNone, IsTrue, length, ◌≢◌, codes, ℤ};
+ghost use Rattle.std.specs.Option.{SomeIff};
+ghost use Rattle.std.specs.Str.Parse.{AllDigits, digits_value};
+ghost use Rattle.cv_model.specs.declared.colour.Rgb.{Rgb};
+ghost use Rattle.cv_model.specs.Positions.{Rectangle, IsCoordinate};
+ghost use Rattle.cv_model.specs.Views.{PixelGrid};
+ghost use Rattle.cv_wkt.specs.PlainForm.{IsPlainNumber};
+ghost use Rattle.cv_top.specs.Words.{IsCount, IsColour, IsExtentOf, IsViewOf, IsPlan, IsQuick, QuickOrder};
+
+use cv_geom::view_of;
+use cv_model::{Extent, Rgb, Text, View};
+use cv_wkt::plain_number;
+
+/// What the words of `quick` ask for.
+#[derive(Clone, Copy, Debug)]
+pub struct QuickWords<'a> {
+    /// The name of the delimited text.
+    pub csv: &'a str,
+    /// The name of the picture.
+    pub out: &'a str,
+    /// The view of the extent at the size.
+    pub view: View,
+    /// The colour of the polygons.
+    pub fill: Rgb,
+}
+
+/// What the words ask for, if they are `quick` and its nine words: two names, a size in pixels, an extent in map
+/// units and six hexadecimal digits.
+pub fn quick_words(words: &[Text]) -> Option<QuickWords<'_>>
+    ensures found { IfSome result (λ q. IsQuick words.now
+        (record { csv = q.csv.now; out = q.out.now; view = q.view; fill = q.fill })) }
+    ensures only { (order : QuickOrder) → IsQuick words.now order → IsSomeAnd result (λ q.
+        record { csv = q.csv.now; out = q.out.now; view = q.view; fill = q.fill } ≡ order) }
+{
+    let ten = ten_words(words)?;
+    if !is_quick(ten.command) {
+        return None;
+    }
+    let plan = planned(&ten)?;
+    Some(QuickWords {
+        csv: ten.csv,
+        out: ten.out,
+        view: plan.view,
+        fill: plan.fill,
+    })
+}
+
+/// The ten words of `quick`, in their order.
+#[derive(Clone, Copy)]
+struct TenWords<'a> {
+    command: &'a str,
+    csv: &'a str,
+    out: &'a str,
+    w: &'a str,
+    h: &'a str,
+    xmin: &'a str,
+    ymin: &'a str,
+    xmax: &'a str,
+    ymax: &'a str,
+    fill: &'a str,
+}
+
+/// The words, if there are ten.
+fn ten_words(words: &[Text]) -> Option<TenWords<'_>>
+    ensures found { IfSome result (λ t. words.now ≡ t.command.now ∷ t.csv.now ∷ t.out.now ∷ t.w.now ∷ t.h.now
+        ∷ t.xmin.now ∷ t.ymin.now ∷ t.xmax.now ∷ t.ymax.now ∷ t.fill.now ∷ []) }
+    ensures only { IfNone result (length words.now ≢ 10) }
+{
+    let [command, csv, out, w, h, xmin, ymin, xmax, ymax, fill] = words else {
+        return None;
+    };
+    Some(TenWords {
+        command: command.as_str(),
+        csv: csv.as_str(),
+        out: out.as_str(),
+        w: w.as_str(),
+        h: h.as_str(),
+        xmin: xmin.as_str(),
+        ymin: ymin.as_str(),
+        xmax: xmax.as_str(),
+        ymax: ymax.as_str(),
+        fill: fill.as_str(),
+    })
+}
+
+/// What is to be drawn: the pixels and the colour.
+#[derive(Clone, Copy)]
+struct Plan {
+    view: View,
+    fill: Rgb,
+}
+
+/// The view and the fill that the words give.
+fn planned(ten: &TenWords<'_>) -> Option<Plan>
+    ensures found { IfSome result (λ p. IsPlan ten.now.w.now ten.now.h.now ten.now.xmin.now ten.now.ymin.now
+        ten.now.xmax.now ten.now.ymax.now ten.now.fill.now p.view p.fill) }
+    ensures only { (view : PixelGrid) (fill : Rgb) → IsPlan ten.now.w.now ten.now.h.now ten.now.xmin.now ten.now.ymin.now
+        ten.now.xmax.now ten.now.ymax.now ten.now.fill.now view fill → result ≡ Some (record { view = view; fill = fill }) }
+{
+    let extent = extent(ten.xmin, ten.ymin, ten.xmax, ten.ymax)?;
+    let view = sized(ten.w, ten.h, extent)?;
+    let fill = colour(ten.fill.as_bytes())?;
+    Some(Plan { view, fill })
+}
+
+/// Whether a word is the command `quick`.
+fn is_quick(word: &str) -> bool
+    ensures { IsTrue result ↔ (word.now ≡ codes "quick") }
+{
+    word == "quick"
+}
+
+/// A word as a plain number, in millionths of a map unit.
+fn number(word: &str) -> Option<i64>
+    ensures found { IfSome result (λ z. IsPlainNumber word.now z) }
+    ensures only { (z : ℤ) → IsPlainNumber word.now z → result ≡ Some z }
+    ensures range { IfSome result (λ z. IsCoordinate z) }
+{
+    plain_number(word.as_bytes())
+}
+
+/// Four words as an extent.
+fn extent(xmin: &str, ymin: &str, xmax: &str, ymax: &str) -> Option<Extent>
+    ensures found { IfSome result (λ e. IsExtentOf xmin.now ymin.now xmax.now ymax.now e) }
+    ensures only { (e : Rectangle) → IsExtentOf xmin.now ymin.now xmax.now ymax.now e → result ≡ Some e }
+{
+    let xmin = number(xmin)?;
+    let ymin = number(ymin)?;
+    let xmax = number(xmax)?;
+    let ymax = number(ymax)?;
+    Some(rectangle(xmin, ymin, xmax, ymax))
+}
+
+/// The extent of four coordinates.
+fn rectangle(xmin: i64, ymin: i64, xmax: i64, ymax: i64) -> Extent
+    requires west_in { IsCoordinate xmin }
+    requires south_in { IsCoordinate ymin }
+    requires east_in { IsCoordinate xmax }
+    requires north_in { IsCoordinate ymax }
+    ensures { result ≡ record { xmin = xmin; ymin = ymin; xmax = xmax; ymax = ymax } }
+{
+    Extent {
+        xmin,
+        ymin,
+        xmax,
+        ymax,
+    }
+}
+
+/// Two words as a size, and the view of the extent at it.
+fn sized(w: &str, h: &str, extent: Extent) -> Option<View>
+    ensures found { IfSome result (λ v. IsViewOf w.now h.now extent v) }
+    ensures only { (v : PixelGrid) → IsViewOf w.now h.now extent v → result ≡ Some v }
+{
+    let w = side(w)?;
+    let h = side(h)?;
+    view_of(extent, w, h).ok()
+}
+
+/// One to ten digits as the side of a view. One that is too large for any view is none.
+fn side(word: &str) -> Option<u32>
+    ensures found { IfSome result (λ n. IsCount word.now n) }
+    ensures only { (n : ℕ) → n ≤ 4096 → IsCount word.now n → result ≡ Some n }
+{
+    u32::try_from(count(word)?).ok()
+}
+
+/// One to ten digits as a number.
+fn count(word: &str) -> Option<u64>
+    ensures found { IfSome result (λ n. IsCount word.now n) }
+    ensures only { (n : ℕ) → IsCount word.now n → result ≡ Some n }
+{
+    if word.len() > 10 || word.as_bytes().first() == Some(&b'+') {
+        return None;
+    }
+    word.parse::<u64>().ok()
+}
+
+/// Two hexadecimal digits, in either case, as a number.
+fn channel(high: u8, low: u8) -> Option<u8>
+    ensures { SomeIff result (AllDigits 16 (high ∷ low ∷ [])) (digits_value 16 (high ∷ low ∷ [])) }
+{
+    let high = char::from(high).to_digit(16)?;
+    let low = char::from(low).to_digit(16)?;
+    Some((16 * high + low) as u8)
+}
+
+/// Six hexadecimal digits, in either case, as red, green and blue.
+fn colour(word: &[u8]) -> Option<Rgb>
+    ensures found { IfSome result (λ c. IsColour word.now c) }
+    ensures only { (c : Rgb) → IsColour word.now c → result ≡ Some c }
+{
+    match word {
+        [r1, r2, g1, g2, b1, b2] => {
+            let r = channel(*r1, *r2)?;
+            let g = channel(*g1, *g2)?;
+            let b = channel(*b1, *b2)?;
+            Some(Rgb { r, g, b })
+        }
+        _ => None,
+    }
+}
