@@ -1,4 +1,4 @@
-//! Views made of an extent and a size.
+//! Views: made of an extent and a size, moved, and scaled.
 
 ghost use Rattle.std.specs.Prelude.{◌≡◌, ◌↔◌, ◌+◌, ◌≤◌, ◌<◌, ◌^◌, pos, ◌+ℤ◌, ◌-ℤ◌, ◌*ℤ◌, ◌≤ℤ◌, unsigned_abs};
 ghost use Rattle.cv_model.specs.Positions.{IsCoordinate};
@@ -53,7 +53,7 @@ fn laid_round(extent: Extent, w: u32, h: u32) -> Result<View, ViewError>
     )
 }
 
-/// A view moved by so many of its pixels: by `dx` eastwards and by `dy` southwards.
+/// A view moved by so many of its pixels: by `dx` eastwards and by `dy` southwards. Only its range can refuse it.
 pub fn pan(view: &View, dx: i32, dy: i32) -> Result<View, ViewError>
     ensures answer { result ≡ pan view.now dx dy }
     ensures range { (result ≡ Err ViewError.Range) ↔ LeavesRange (moved view.now dx dy) }
@@ -81,7 +81,7 @@ fn moved_top(view: &View, dy: i32) -> i128
     i128::from(view.ty2) - span(i64::from(dy), view.u)
 }
 
-/// A view with pixels `num / den` times as long, rounded upwards, round the same middle.
+/// A view with pixels `num / den` times as long, rounded upwards, round the same middle. Only its range can refuse it.
 pub fn zoom(view: &View, num: u32, den: u32) -> Result<View, ViewError>
     requires num_in { IsZoomPart num }
     requires den_in { IsZoomPart den }

@@ -1,4 +1,6 @@
 -- What a marker covers: the positions round a point, by its shape.
+--
+-- Source: this project's own shapes, each with its border.
 use Rattle.std.specs.Prelude.{◌+◌, max, Bool, ℤ, pos, ◌+ℤ◌, ◌-ℤ◌, ◌*ℤ◌, int_le, unsigned_abs}
 use Rattle.cv_model.specs.declared.shape.Shape.{Shape}
 use Rattle.cv_model.specs.declared.shape.Shape.TheVariants.{Square, Diamond, Circle}

@@ -1,4 +1,6 @@
 -- What a pen hits: a segment that meets the square round a position.
+--
+-- Source: this project's own pen, an upright square whose middle follows the line.
 use Rattle.std.specs.Prelude.{◌^◌, Bool, not, ◌&&◌, ℤ, pos, ◌+ℤ◌, ◌-ℤ◌, ◌*ℤ◌, ◌≤ℤ◌, int_lt, int_le, List, [], ◌∷◌}
 use Rattle.std.specs.Int.{int_max, int_min}
 use Rattle.std.specs.List.{list_all}

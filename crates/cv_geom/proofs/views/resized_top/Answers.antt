@@ -11,7 +11,6 @@ overflow_add-result c =
 
 pub returns : goal.returns
 returns c =
-    let fits = overflow_add-result c in
     let edge = c.view.invariant.top in
     let bound = c.half_span.ensures.bound in
     let bound_2 = c.half_span-2.ensures.bound in
