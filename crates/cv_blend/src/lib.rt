@@ -9,3 +9,6 @@ pub mod source_over;
 
 pub use merging::merge;
 pub use source_over::over;
+
+#[cfg(test)]
+mod tests;

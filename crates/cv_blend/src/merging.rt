@@ -6,7 +6,7 @@ ghost use Rattle.cv_model.specs.Colours.{merge, blended, channel_merged};
 
 use cv_model::{Blend, Rgb, Rgba};
 
-/// The blend function of a mode.
+/// The blend function of a mode, of a backdrop's channel and a source's.
 fn blended_by(mode: Blend, _backdrop: u8, source: u8) -> u8
     ensures { result ≡ blended mode _backdrop source }
 {
@@ -15,7 +15,7 @@ fn blended_by(mode: Blend, _backdrop: u8, source: u8) -> u8
     }
 }
 
-/// A layer's alpha under the layer's opacity.
+/// The alpha of a layer's colour under the layer's opacity, of which 255 leaves it as it is.
 fn effective(alpha: u8, opacity: u8) -> u8
     ensures { result ≡ rnd (alpha * opacity) 255 }
 {
@@ -33,6 +33,8 @@ fn channel(mode: Blend, alpha: u8, backdrop: u8, source: u8) -> u8
 }
 
 /// The colour `source` of a layer with this opacity and blend mode, merged onto the opaque colour `backdrop`.
+///
+/// Opacity is from 0 (nothing of the layer is seen) to 255 (the layer as painted).
 ///
 /// Source: W3C Compositing and Blending Level 1, blending over an opaque backdrop, in whole numbers; divisions
 /// round a half upwards.

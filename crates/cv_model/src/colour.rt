@@ -1,6 +1,6 @@
 //! Colours and blend modes.
 
-/// An opaque colour, a channel from 0 to 255 each.
+/// An opaque colour. Each channel is from 0 to 255.
 #[derive(Clone, Copy, Debug, PartialEq, Eq)]
 pub struct Rgb {
     /// Red.
@@ -11,7 +11,7 @@ pub struct Rgb {
     pub b: u8,
 }
 
-/// A colour with its alpha, not premultiplied. Alpha 0 is transparent, 255 opaque.
+/// A colour with its alpha, not premultiplied. Alpha 0 is transparent, 255 is opaque.
 #[derive(Clone, Copy, Debug, PartialEq, Eq)]
 pub struct Rgba {
     /// Red.
@@ -26,9 +26,9 @@ pub struct Rgba {
 
 /// How a layer's colour is blended onto what lies below it.
 ///
-/// Source: the blend modes of W3C Compositing and Blending Level 1, of which `normal` is there so far.
+/// Source: the blend modes of W3C Compositing and Blending Level 1, so far `normal` alone.
 #[derive(Clone, Copy, Debug, PartialEq, Eq)]
 pub enum Blend {
-    /// The source's channel.
+    /// `normal`: the source's channel, whatever lies below it.
     Normal,
 }

@@ -4,7 +4,7 @@ use std::marker::Model;
 
 /// A rectangle of the map, in millionths of a map unit, each number from -10^15 to 10^15.
 ///
-/// It may be empty or turned round: what an extent shows is asked by the call that makes a view of it.
+/// It may have no width or no height, and its edges may be exchanged: the call that makes a view of it refuses such extents.
 #[derive(Clone, Copy, Debug)]
 pub struct Extent {
     /// The western edge.

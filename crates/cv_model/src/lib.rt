@@ -1,8 +1,8 @@
 //! The plain types of the map and the definitions that all contracts cite.
 //!
 //! Contract: each type keeps what its definition says, and is seen as a list, a number or a record of its parts.
-//! Definitions: `Positions`, `Views`, `Polygons`, `Pens`, `Markers`, `Colours`, `Layers`, `Rasters`, `Pictures`, in this order.
-//! Only `push`, `with_room` and `Text::of` take memory; no handle is needed.
+//! Definitions: `Rounding`, `Positions`, `Views`, `Polygons`, `Pens`, `Markers`, `Colours`, `Layers`, `Rasters`, `Pictures`,
+//! in this order. Only `with_room`, `push`, `put` and `Text::of` take memory; no handle is needed.
 #![tactic(auto)]
 
 pub mod colour;
@@ -25,5 +25,8 @@ pub use symbol::Symbol;
 pub use text::Text;
 pub use view::View;
 
-/// Want of memory: the one answer of a call that no clause ties to a cause.
+/// The answer of a call that has got no memory. It is the one answer whose cause contracts leave out, since no caller can know it.
 pub type NoMemory = std::alloc::AllocError;
+
+#[cfg(test)]
+mod tests;

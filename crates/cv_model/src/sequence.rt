@@ -1,4 +1,5 @@
 //! A list of items, for all types that are seen as a list alone.
+
 ghost use Rattle.std.specs.Prelude.{◌≡◌, ◌++◌, ◌∷◌, [], length, OnOk, OnErr, IfOk, IfErr, slice_get};
 ghost use Rattle.std.specs.Option.{option_copied};
 
@@ -60,7 +61,7 @@ impl<T> Sequence<T> {
         Ok(())
     }
 
-    /// The item at a place.
+    /// The item at a place, of which the first is 0. There is none from `len` on.
     pub fn get(&self, at: u64) -> Option<&T>
         ensures { option_copied result ≡ slice_get self.now at }
     {
@@ -74,7 +75,7 @@ impl<T> Sequence<T> {
         self.items.len() as u64
     }
 
-    /// The items.
+    /// The items in order.
     pub fn as_slice(&self) -> &[T]
         ensures { result.now ≡ self.now }
     {

@@ -21,7 +21,7 @@ impl Model for Text {
 }
 
 impl Text {
-    /// A text of its own with these bytes.
+    /// A copy of a text, in memory of its own.
     pub fn of(alloc: Global, text: &str) -> Result<Text, NoMemory>
         ensures { IfOk result (λ made. made ≡ text.now) }
     {

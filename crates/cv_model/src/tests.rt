@@ -1,0 +1,47 @@
+//! What no clause says: each call that takes memory can answer, and a list works at a type that must be dropped.
+use crate::{Point, Polygon, Rgb, RgbList, Ring, Text};
+use std::test::Fail;
+
+const RED: Rgb = Rgb { r: 255, g: 0, b: 0 };
+
+const BLUE: Rgb = Rgb { r: 0, g: 0, b: 255 };
+
+#[test]
+fn a_list_takes_items(rt: HostRuntime) -> Result<(), Fail> {
+    let mut colours = RgbList::with_room(rt.alloc(), 1)?;
+    assert_eq!(rt; colours.len(), 0);
+    colours.put(RED)?;
+    colours.push(BLUE)?;
+    assert_eq!(rt; colours.as_slice(), [RED, BLUE].as_slice());
+    for (at, want) in [(0, Some(&RED)), (1, Some(&BLUE)), (2, None)] {
+        assert_eq!(rt; colours.get(at), want, "at {at}");
+    }
+    Ok(())
+}
+
+#[test]
+fn a_polygon_takes_rings(rt: HostRuntime) -> Result<(), Fail> {
+    let alloc = rt.alloc();
+    let mut polygon = Polygon::new(alloc);
+    for count in 0..3 {
+        let mut ring = Ring::new(alloc);
+        for _ in 0..count {
+            ring.put(Point {
+                x: 1_000_000,
+                y: -1,
+            })?;
+        }
+        polygon.put(ring)?;
+    }
+    for (at, want) in [(0, Some(0)), (1, Some(1)), (2, Some(2)), (3, None)] {
+        assert_eq!(rt; polygon.get(at).map(|ring| ring.len()), want, "at {at}");
+    }
+    Ok(())
+}
+
+#[test]
+fn a_text_is_copied(rt: HostRuntime) -> Result<(), Fail> {
+    let text = Text::of(rt.alloc(), "Grünau 4")?;
+    assert_eq!(rt; text.as_str(), "Grünau 4");
+    Ok(())
+}
