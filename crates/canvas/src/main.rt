@@ -57,3 +57,6 @@ fn main(rt: HostRuntime) -> ExitCode {
     }
     ExitCode::from(end.status())
 }
+
+#[cfg(test)]
+mod tests;
