@@ -7,3 +7,6 @@
 pub mod pixmap;
 
 pub use pixmap::ppm;
+
+#[cfg(test)]
+mod tests;

@@ -7,3 +7,6 @@
 pub mod plain;
 
 pub use plain::quick;
+
+#[cfg(test)]
+mod tests;
