@@ -7,6 +7,7 @@
 
 pub mod colour;
 pub mod extent;
+pub mod geometry;
 pub mod picture;
 pub mod point;
 pub mod sequence;
@@ -17,6 +18,7 @@ pub mod view;
 
 pub use colour::{Blend, Rgb, Rgba};
 pub use extent::Extent;
+pub use geometry::{Geometry, Line, WktError};
 pub use picture::{Picture, RgbList};
 pub use point::{Point, Point2, Polygon, Ring};
 pub use sequence::Sequence;
