@@ -12,3 +12,5 @@ pub mod SpelledIsRead
 pub mod Laws
 -- the bytes that stand in no plain polygon
 pub mod PlainBytes
+-- what may still come behind each state, and that the machine reads just that
+pub mod Comings

@@ -9,7 +9,9 @@ ghost use Rattle.std.specs.Prelude.{◌≡◌, ◌≤◌, ◌<◌, ◌^◌, IfSo
 ghost use Rattle.cv_model.specs.Positions.{Position, IsCoordinate};
 ghost use Rattle.cv_wkt.specs.PlainForm.{IsPlainNumber, IsPlainPolygon, points_of};
 
+mod kind;
 mod number;
+mod place;
 mod polygon;
 
 use cv_model::{NoMemory, Polygon};
