@@ -34,34 +34,34 @@ after_more f s One r a = a
 after_more f s Several None a = a
 after_more f s Several (Some ts) a = after f ts a
 
-no_more : (s : Sort) (m : Many) → MoreOf s m
+pub no_more : (s : Sort) (m : Many) → MoreOf s m
 no_more s One = tt
 no_more s Several = None
 
 -- a list is its first item and the further ones
-record Split (f : Frame) (s : Sort) (m : Many) (ts : Tree s m) : Type 0 where
-  first : Tree s One
-  rest : MoreOf s m
-  spelt : spelled ts ≡ spelled first ++ more s m rest
-  means : (a : Gathered) → after f ts a ≡ after_more f s m rest (after f first a)
+pub record Split (f : Frame) (s : Sort) (m : Many) (ts : Tree s m) : Type 0 where
+  pub first : Tree s One
+  pub rest : MoreOf s m
+  pub spelt : spelled ts ≡ spelled first ++ more s m rest
+  pub means : (a : Gathered) → after f ts a ≡ after_more f s m rest (after f first a)
 
-split : (f : Frame) (s : Sort) (m : Many) (ts : Tree s m) → Split f s m ts
+pub split : (f : Frame) (s : Sort) (m : Many) (ts : Tree s m) → Split f s m ts
 split f s One t = record { first = t; rest = tt; spelt = sym (append-nil (spelled t)); means = λ a. refl }
 split f s Several (Last q t) = record { first = t; rest = None; spelt = sym (append-nil (spelled t)); means = λ a. refl }
 split f s Several (More q t ts) = record { first = t; rest = Some ts; spelt = refl; means = λ a. refl }
 
-join : (s : Sort) (m : Many) → Tree s One → MoreOf s m → Tree s m
+pub join : (s : Sort) (m : Many) → Tree s One → MoreOf s m → Tree s m
 join s One t r = t
 join s Several t None = Last s t
 join s Several t (Some ts) = More s t ts
 
-join_spelt : (s : Sort) (m : Many) (t : Tree s One) (r : MoreOf s m) → spelled (join s m t r) ≡ spelled t ++ more s m r
+pub join_spelt : (s : Sort) (m : Many) (t : Tree s One) (r : MoreOf s m) → spelled (join s m t r) ≡ spelled t ++ more s m r
 unfolding join
 join_spelt s One t r = sym (append-nil (spelled t))
 join_spelt s Several t None = sym (append-nil (spelled t))
 join_spelt s Several t (Some ts) = refl
 
-join_means : (f : Frame) (s : Sort) (m : Many) (t : Tree s One) (r : MoreOf s m) (a : Gathered) → after f (join s m t r) a ≡ after_more f s m r (after f t a)
+pub join_means : (f : Frame) (s : Sort) (m : Many) (t : Tree s One) (r : MoreOf s m) (a : Gathered) → after f (join s m t r) a ≡ after_more f s m r (after f t a)
 unfolding join
 join_means f s One t r a = refl
 join_means f s Several t None a = refl
@@ -113,18 +113,18 @@ ComesBehind p fs x n a k w v = IsSomeAnd (stepped p k (place p fs x n a)) (Goes 
 
 -- ---- further ordinates
 
-trails : (fs : List Frame) (a : Gathered) (m : Further) (u : List Kind) (v : GeometryLists) → Closes fs a u v → Trails 2 fs a (further m ++ u) v
+pub trails : (fs : List Frame) (a : Gathered) (m : Further) (u : List Kind) (v : GeometryLists) → Closes fs a u v → Trails 2 fs a (further m ++ u) v
 trails fs a NoneFurther u v h = inl h
 trails fs a (OneFurther z) u v h = inr (z, u, refl, inl h)
 trails fs a (TwoFurther z m) u v h = inr (z, ordinate m ∷ u, refl, inr (m, u, refl, h))
 
-record Trail (fs : List Frame) (a : Gathered) (w : List Kind) (v : GeometryLists) : Type 0 where
-  all : Further
-  rest : List Kind
-  spelt : w ≡ further all ++ rest
-  closes : Closes fs a rest v
+pub record Trail (fs : List Frame) (a : Gathered) (w : List Kind) (v : GeometryLists) : Type 0 where
+  pub all : Further
+  pub rest : List Kind
+  pub spelt : w ≡ further all ++ rest
+  pub closes : Closes fs a rest v
 
-trail : (fs : List Frame) (a : Gathered) (w : List Kind) (v : GeometryLists) → Trails 2 fs a w v → Trail fs a w v
+pub trail : (fs : List Frame) (a : Gathered) (w : List Kind) (v : GeometryLists) → Trails 2 fs a w v → Trail fs a w v
 trail fs a w v (inl h) = record { all = NoneFurther; rest = w; spelt = refl; closes = h }
 trail fs a w v (inr (z, u, e, inl h)) = record { all = OneFurther z; rest = u; spelt = e; closes = h }
 trail fs a w v (inr (z, u, e, inr (m, t, d, h))) = record { all = TwoFurther z m; rest = t; spelt = e ∙ ap (λ q. ordinate z ∷ q) d; closes = h }

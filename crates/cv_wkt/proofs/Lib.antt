@@ -14,3 +14,7 @@ pub mod Laws
 pub mod PlainBytes
 -- what may still come behind each state, and that the machine reads just that
 pub mod Comings
+-- one token: what comes with it, and what comes behind it
+pub mod OneToken
+-- the machine reads the grammar
+pub mod ReadsGrammar
