@@ -16,7 +16,7 @@ use Rattle.cv_wkt.specs.declared.place.Sort.{Sort}
 use Rattle.cv_wkt.specs.declared.place.Sort.TheVariants.{Ordinates, Member, Group, Geometry}
 use Rattle.cv_wkt.specs.declared.place.Now.{Now}
 use Rattle.cv_wkt.specs.declared.place.Now.TheVariants.{Start, BehindSrid, BehindEquals, BehindDigits, Begin, BehindWord, BehindX, Behind}
-use Rattle.cv_wkt.specs.Kinds.{kind_of, word_kind, geometry_kind}
+use Rattle.cv_wkt.specs.Kinds.{kind_of, word_kind, keyword_kind, geometry_kind}
 use Rattle.cv_wkt.specs.Grammar.{group_of, item, Many, One, Several, many, Coordinate, Ordinate, Further, NoneFurther, TagForm, NoTag, Joined, Apart, Tree, PointOf, EmptyOf, ListOf, NoMember, BareMember, MemberOf, Tagged, Last, More, coordinate, ordinate, further, tagged, spelled, Prefix, NoPrefix, SridOf, prefix, Gathered, nothing, added, closed, emptied, after, lists, Spells}
 use Rattle.cv_wkt.specs.Machine.{State, start, innermost, behind_word, separated, behind_item, stepped, ended_at, wkt_reader}
 use Rattle.cv_wkt.proofs.Comings.{MoreOf, more, no_more, Finishes, Closes, Trails, Part, maybe_tag, Comes, place, Goes, ComesBehind}
@@ -166,7 +166,7 @@ Leaves C = (w : List (List ℕ)) × (v : GeometryLists) × C (map kind_of w) v
 
 -- each open list can be closed
 closes_live : (fs : List Frame) (a : Gathered) → Leaves (Closes fs a)
-unfolding kind_of word_kind
+unfolding kind_of word_kind keyword_kind
 closes_live [] a = ([], lists a, (refl, refl))
 closes_live (f ∷ fs) a = by_many (item f) (many f) (closes_live fs (closed f a))
   where
@@ -180,7 +180,7 @@ trails_live (suc r) fs a = let (w, v, h) = closes_live fs a in (w, v, inl h)
 
 -- a part of each sort: `0 0`, EMPTY, `POINT EMPTY`
 part_live : (s : Sort) (fs : List Frame) (a : Gathered) → Leaves (Part s fs a)
-unfolding kind_of word_kind geometry_kind
+unfolding kind_of word_kind keyword_kind geometry_kind
 part_live Ordinates fs a =
     let zero_of : Coordinate = record { value = ℤ.pos 0; digits = true } in
     let (w, v, h) = closes_live fs (added (innermost fs) (record { x = ℤ.pos 0; y = ℤ.pos 0 }) a) in
@@ -194,7 +194,7 @@ part_live Geometry fs a =
     ((80 ∷ 79 ∷ 73 ∷ 78 ∷ 84 ∷ []) ∷ (69 ∷ 77 ∷ 80 ∷ 84 ∷ 89 ∷ []) ∷ w, v, (Tagged Point NoTag (EmptyOf OnePoint), map kind_of w, refl, h))
 
 live : (p : Now) (fs : List Frame) (x : ℤ) (a : Gathered) → Leaves (Comes p fs x a)
-unfolding kind_of word_kind
+unfolding kind_of word_kind keyword_kind
 live Start fs x a = let (w, v, h) = part_live Geometry fs a in (w, v, (NoPrefix, map kind_of w, refl, h))
 live BehindSrid fs x a =
     let (w, v, h) = part_live Geometry fs a in

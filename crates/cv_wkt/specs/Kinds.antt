@@ -51,12 +51,20 @@ abbrev pub has_name : List ℕ → List ℕ → Bool
 has_name name bytes = is_some_bool (named name bytes)
 
 -- the words of curves and surfaces
+abbrev pub is_line_word : List ℕ → Bool
+is_line_word bytes =
+    has_name (codes "CIRCULARSTRING") bytes || has_name (codes "COMPOUNDCURVE") bytes || has_name (codes "CURVE") bytes || has_name (codes "MULTICURVE") bytes
+
+abbrev pub is_area_word : List ℕ → Bool
+is_area_word bytes =
+    has_name (codes "CURVEPOLYGON") bytes || has_name (codes "SURFACE") bytes || has_name (codes "MULTISURFACE") bytes
+
+abbrev pub is_mesh_word : List ℕ → Bool
+is_mesh_word bytes =
+    has_name (codes "POLYHEDRALSURFACE") bytes || has_name (codes "TIN") bytes || has_name (codes "TRIANGLE") bytes
+
 abbrev pub is_curve : List ℕ → Bool
-is_curve bytes =
-    has_name (codes "CIRCULARSTRING") bytes || has_name (codes "COMPOUNDCURVE") bytes || has_name (codes "CURVEPOLYGON") bytes
-    || has_name (codes "MULTICURVE") bytes || has_name (codes "MULTISURFACE") bytes || has_name (codes "CURVE") bytes
-    || has_name (codes "SURFACE") bytes || has_name (codes "POLYHEDRALSURFACE") bytes || has_name (codes "TIN") bytes
-    || has_name (codes "TRIANGLE") bytes
+is_curve bytes = is_line_word bytes || is_area_word bytes || is_mesh_word bytes
 
 -- the kind that was found, and else another
 abbrev pub or_else : Option Kind → Kind → Kind
@@ -77,6 +85,14 @@ geometry_kind bytes =
     (or_else (name_kind MultiPolygon (codes "MULTIPOLYGON") bytes)
     (or_else (name_kind Collection (codes "GEOMETRYCOLLECTION") bytes) (if is_curve bytes then Curve else Other)))))))
 
+-- the kind of a token that is neither a decimal nor a sign
+unfoldable pub keyword_kind : List ℕ → Kind
+keyword_kind bytes =
+    if is_word (codes "SRID") bytes then Srid
+    else if is_word (codes "EMPTY") bytes then Empty
+    else if is_tag bytes then Tag
+    else geometry_kind bytes
+
 -- the kind of a token that is no decimal
 unfoldable pub word_kind : List ℕ → Kind
 word_kind bytes =
@@ -85,10 +101,7 @@ word_kind bytes =
     else if is_word (codes ",") bytes then Comma
     else if is_word (codes ";") bytes then Semicolon
     else if is_word (codes "=") bytes then Equals
-    else if is_word (codes "SRID") bytes then Srid
-    else if is_word (codes "EMPTY") bytes then Empty
-    else if is_tag bytes then Tag
-    else geometry_kind bytes
+    else keyword_kind bytes
 
 -- a decimal, and whether it consists of digits alone
 abbrev pub number_kind : List ℕ → Option Fixed → Option Kind

@@ -4,3 +4,5 @@ pub mod Reading
 pub mod Kinds
 pub mod Grammar
 pub mod Machine
+pub mod Ranges
+pub mod Refusals

@@ -60,9 +60,9 @@ pub enum Now {
 /// Why a token is refused.
 #[derive(Clone, Copy)]
 pub enum Cause {
-    Syntax,
-    Curve,
-    OutOfRange,
-    TooDeep,
-    TooMany,
+    Unexpected,
+    Curved,
+    Beyond,
+    Deep,
+    Full,
 }
