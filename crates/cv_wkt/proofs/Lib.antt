@@ -18,3 +18,5 @@ pub mod Comings
 pub mod OneToken
 -- the machine reads the grammar
 pub mod ReadsGrammar
+-- a stack in a vector
+pub mod Stacks

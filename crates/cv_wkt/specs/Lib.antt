@@ -4,5 +4,6 @@ pub mod Reading
 pub mod Kinds
 pub mod Grammar
 pub mod Machine
+pub mod Stacks
 pub mod Ranges
 pub mod Refusals

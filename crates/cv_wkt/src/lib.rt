@@ -11,8 +11,10 @@ ghost use Rattle.cv_wkt.specs.PlainForm.{IsPlainNumber, IsPlainPolygon, points_o
 
 mod kind;
 mod number;
+mod pieces;
 mod place;
 mod polygon;
+mod stack;
 
 use cv_model::{NoMemory, Polygon};
 use std::alloc::Global;
