@@ -20,3 +20,5 @@ pub mod OneToken
 pub mod ReadsGrammar
 -- a stack in a vector
 pub mod Stacks
+-- steps at some tokens
+pub mod Steps

@@ -1,5 +1,6 @@
 -- A stack in a vector: its last item is the innermost.
-use Rattle.std.proofs.Common.{◌≡◌, ℕ, suc, ◌+◌, ◌-◌, List, [], ◌∷◌, ◌++◌, reverse, length, slice_get, Option, Some, None, refl, sym, ap, subst, ◌∙◌, arith, length-append}
+use Rattle.std.proofs.Common.{◌≡◌, ℕ, suc, ◌+◌, ◌-◌, List, [], ◌∷◌, ◌++◌, reverse, length, slice_get, Option, Some, None, refl, sym, ap, subst, ◌∙◌, arith, length-append, cond, count_by, sum_by, Bool}
+use Rattle.std.proofs.lemmas.List.Sums.{sum_by-append}
 use Rattle.std.proofs.lemmas.List.{reverse-append, reverse-reverse}
 use Rattle.cv_wkt.specs.declared.place.Frame.{Frame}
 use Rattle.cv_wkt.specs.Stacks.{first_of}
@@ -26,3 +27,15 @@ first_is (y ∷ ys) =
 -- the innermost item
 pub reverse_top : {A : Type 0} (xs : List A) → slice_get xs (length xs - 1) ≡ first_of (reverse xs)
 reverse_top xs = ap (λ z. slice_get z (length z - 1)) (sym (reverse-reverse xs)) ∙ first_is (reverse xs)
+
+-- counting doesn't mind the order
+sum_reverse : {A : Type 0} (f : A → ℕ) (xs : List A) → sum_by f (reverse xs) ≡ sum_by f xs
+sum_reverse f [] = refl
+sum_reverse f (x ∷ xs) =
+    let e : reverse (x ∷ xs) ≡ reverse xs ++ x ∷ [] = reverse-append (x ∷ []) xs in
+    let parts = sum_by-append f (reverse xs) (x ∷ []) in
+    let all : sum_by f (x ∷ xs) ≡ sum_by f (x ∷ []) + sum_by f xs = sum_by-append f (x ∷ []) xs in
+    ap (sum_by f) e ∙ omega (arith, sum_reverse f xs, parts, all)
+
+pub count_reverse : {A : Type 0} (p : A → Bool) (xs : List A) → count_by p (reverse xs) ≡ count_by p xs
+count_reverse p xs = sum_reverse (λ y. cond (p y) 1 0) xs

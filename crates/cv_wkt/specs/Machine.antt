@@ -1,6 +1,6 @@
 -- The machine that reads well-known text, and why it refuses.
-use Rattle.std.specs.Prelude.{◌≡◌, ℕ, zero, suc, ◌+◌, ℤ, Bool, true, false, nat_le, if◌then◌else◌, List, [], ◌∷◌, Option, Some, None, Result, Ok, Err}
-use Rattle.cv_model.specs.Positions.{Position}
+use Rattle.std.specs.Prelude.{◌≡◌, ℕ, zero, suc, ◌+◌, ℤ, Bool, true, false, ◌≤◌, nat_le, if◌then◌else◌, List, [], ◌∷◌, Option, Some, None, Result, Ok, Err}
+use Rattle.cv_model.specs.Positions.{Position, IsCoordinate}
 use Rattle.cv_model.specs.Layers.{GeometryLists}
 use Rattle.cv_reading.specs.Machines.{Machine}
 use Rattle.cv_reading.specs.Watches.{Watch}
@@ -93,6 +93,18 @@ stepped BehindX (Number (Value y) d) s = Some (with_y y s)
 stepped (Behind (suc n)) (Number f d) s = Some (record s { now = Behind n })
 stepped (Behind n) k s = behind_item s.frames k s
 stepped _ _ s = None
+
+-- what a step that was made or refused says of the state behind it
+abbrev pub Stepped : Bool → Option State → State → Type 0
+Stepped true (Some t) s = s ≡ t
+Stepped true None s = ⊥
+Stepped false None s = Unit {0}
+Stepped false (Some t) s = ⊥
+
+-- what the state of a reader in code keeps: an x is a coordinate, and there are at most a million vertices
+pub record IsState (s : State) : Type 0 where
+  pub x_in : IsCoordinate s.x
+  pub few : s.vertices ≤ 1000000
 
 -- the geometry of a text that ends here
 abbrev pub ended_at : Now → List Frame → Gathered → Option GeometryLists

@@ -14,6 +14,7 @@ mod number;
 mod pieces;
 mod place;
 mod polygon;
+mod reader;
 mod stack;
 
 use cv_model::{NoMemory, Polygon};

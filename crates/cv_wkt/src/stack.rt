@@ -24,6 +24,15 @@ impl Model for Stack {
     ghost view = { λ s. reverse s.frames.items };
 }
 
+fn is_collection(frame: Frame) -> bool
+    ensures { result ≡ is_collection frame }
+{
+    match frame {
+        Frame::Geometries => true,
+        _ => false,
+    }
+}
+
 impl Stack {
     pub fn new(alloc: Global) -> Stack
         ensures { result ≡ [] }
@@ -39,6 +48,17 @@ impl Stack {
         ensures { result ≡ first_of self.now }
     {
         self.frames.last().copied()
+    }
+
+    /// How many collections are open.
+    #[tactic(auto, using(crate::proofs::Stacks::count_reverse))]
+    pub fn collections(&self) -> u64
+        ensures { result ≡ collections self.now }
+    {
+        self.frames
+            .iter()
+            .filter(|frame| is_collection(**frame))
+            .count() as u64
     }
 
     #[tactic(auto, using(crate::proofs::Stacks::reverse_pushed))]
