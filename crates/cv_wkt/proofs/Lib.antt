@@ -22,3 +22,5 @@ pub mod ReadsGrammar
 pub mod Stacks
 -- steps at some tokens
 pub mod Steps
+-- the way through the bytes
+pub mod Scans

@@ -5,5 +5,6 @@ pub mod Kinds
 pub mod Grammar
 pub mod Machine
 pub mod Stacks
+pub mod Scanning
 pub mod Ranges
 pub mod Refusals

@@ -91,6 +91,10 @@ located end ts (Err (StopAt i c)) = Err (refusal c (offset end ts i))
 abbrev pub answer : ℕ → List Token → State → Result GeometryLists WktError
 answer end ts s = located end ts (watched wkt_reader wkt_watch (map (λ (t : Token). t.bytes) ts) s)
 
+-- the answer at the end
+abbrev pub finished : ℕ → State → Result GeometryLists WktError
+finished end s = answer end [] s
+
 -- the answer to a text: its geometry, or its first refusal
 unfoldable pub geometry_of : List ℕ → Result GeometryLists WktError
 geometry_of text = answer (length text) (tokens_of text) start

@@ -16,6 +16,7 @@ mod place;
 mod polygon;
 mod reader;
 mod stack;
+mod text;
 
 use cv_model::{NoMemory, Polygon};
 use std::alloc::Global;

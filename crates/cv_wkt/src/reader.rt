@@ -1,17 +1,17 @@
 //! The state between two tokens.
 
-ghost use Rattle.std.specs.Prelude.{◌≡◌, ◌<◌, Bool, true, None, OnOk, IfOk};
+ghost use Rattle.std.specs.Prelude.{◌≡◌, ◌<◌, ◌≢◌, Bool, true, None, Ok, Err, OnOk, IfOk, IfErr};
 ghost use Rattle.cv_model.specs.Positions.{IsCoordinate};
 ghost use Rattle.cv_wkt.specs.Machine.{State, start, IsState, Stepped, opened, left_out, with_x, with_y, behind_item, stepped};
 ghost use Rattle.cv_wkt.specs.Ranges.{IsKindInRange};
-ghost use Rattle.cv_wkt.specs.Refusals.{limit_of};
+ghost use Rattle.cv_wkt.specs.Refusals.{limit_of, if_deep, if_full, taken, finished};
 
-use crate::kind::Kind;
+use crate::kind::{Kind, Word};
 use crate::pieces::Pieces;
 use crate::place::{Cause, Frame, Now, Sort};
 use crate::stack::Stack;
 use cv_decimal::Fixed;
-use cv_model::{NoMemory, Point};
+use cv_model::{Geometry, NoMemory, Point, WktError};
 use std::alloc::Global;
 use std::marker::Model;
 
@@ -281,6 +281,72 @@ impl Reader {
             Now::BehindWord(frame) => self.at_word(alloc, frame, kind),
             Now::BehindX => self.at_y(kind),
             Now::Behind(ordinates) => self.behind_item(alloc, ordinates, kind),
+        }
+    }
+
+    /// The limit that a token which can stand meets.
+    fn limit(&self, kind: Kind) -> Option<Cause>
+        ensures { result ≡ limit_of self.now.now self.now.frames self.now.vertices kind }
+    {
+        match self.next {
+            Now::Start | Now::Begin(Sort::Geometry) => self.deep(kind),
+            Now::BehindX => self.full(kind),
+            _ => None,
+        }
+    }
+
+    fn deep(&self, kind: Kind) -> Option<Cause>
+        ensures { result ≡ if_deep self.now.frames kind }
+    {
+        match kind {
+            Kind::Name(Word::Collection, _) => {
+                (self.frames.collections() >= 8).then_some(Cause::Deep)
+            }
+            _ => None,
+        }
+    }
+
+    fn full(&self, kind: Kind) -> Option<Cause>
+        ensures { result ≡ if_full self.now.vertices kind }
+    {
+        match kind {
+            Kind::Number(Fixed::Value(_), _) => {
+                (self.vertices >= 1_000_000).then_some(Cause::Full)
+            }
+            _ => None,
+        }
+    }
+
+    /// Takes a token, which stands at an offset. After an error the reader is of no more use.
+    #[tactic(auto, using(crate::proofs::Steps::limited, crate::proofs::Steps::made, crate::proofs::Steps::refused))]
+    pub fn take(&mut self, alloc: Global, kind: Kind, at: u64) -> Result<(), WktError>
+        requires { IsKindInRange kind }
+        ensures ok { OnOk result (taken self.old kind at ≡ Ok self.new) }
+        ensures err { IfErr result (λ e. (e ≢ WktError.NoMemory) → taken self.old kind at ≡ Err e) }
+    {
+        let limit = self.limit(kind);
+        let cause = self.next.cause(kind);
+        match limit {
+            Some(limit) => Err(limit.at(at)),
+            None => match self.step(alloc, kind) {
+                Ok(true) => Ok(()),
+                Ok(false) => Err(cause.at(at)),
+                Err(_) => Err(WktError::NoMemory),
+            },
+        }
+    }
+
+    /// The answer where the text ends.
+    #[tactic(auto, using(crate::proofs::Steps::finished_is, crate::proofs::Steps::open_is, crate::proofs::Steps::early_is))]
+    pub fn finish(self, end: u64) -> Result<Geometry, WktError>
+        ensures { result ≡ finished end self }
+    {
+        match self.frames.top() {
+            Some(_) => Err(WktError::Syntax(end)),
+            None => match self.next {
+                Now::Behind(_) => Ok(self.pieces.finish()),
+                _ => Err(WktError::Syntax(end)),
+            },
         }
     }
 }

@@ -1,0 +1,108 @@
+-- The way through the bytes of a text: white space, and one token after the other.
+use Rattle.std.proofs.Common.{◌≡◌, ◌≢◌, ℕ, zero, suc, ◌+◌, ◌-◌, ◌<◌, ◌≤◌, ◌⊎◌, inl, inr, Bool, true, false, List, [], ◌∷◌, map, length, take, drop, Option, Some, None, Result, Ok, Err, refl, sym, ap, ap₂, subst, ◌∙◌, arith, length-drop}
+use Rattle.std.proofs.lemmas.List.{drop-drop}
+use Rattle.std.specs.List.{prefix_len}
+use Rattle.cv_model.specs.Layers.{GeometryLists}
+use Rattle.cv_model.specs.declared.geometry.WktError.{WktError}
+use Rattle.cv_reading.specs.Tokens.{ByteKind, White, Single, Word, Token, is_word, cut}
+use Rattle.cv_reading.specs.Watches.{Stop, StopAt, stop_one_further, watched, watched_step}
+use Rattle.cv_reading.proofs.Cutting.{cut_white, cut_single, cut_word}
+use Rattle.cv_wkt.specs.declared.kind.Kind.{Kind}
+use Rattle.cv_wkt.specs.declared.kind.Kind.TheVariants.{Name}
+use Rattle.cv_wkt.specs.declared.kind.Word.TheVariants.{Collection}
+use Rattle.cv_wkt.specs.declared.place.Cause.{Cause}
+use Rattle.cv_wkt.specs.declared.place.Cause.TheVariants.{Unexpected}
+use Rattle.cv_wkt.specs.Kinds.{byte_kind, kind_of, tokens_of}
+use Rattle.cv_wkt.specs.Machine.{State, start, stepped, Stepped, wkt_reader}
+use Rattle.cv_wkt.specs.Refusals.{cause_of, limit_of, wkt_watch, refusal, offset, located, answer, taken_by, taken, geometry_of}
+use Rattle.cv_wkt.specs.Scanning.{len_by, front_len}
+
+-- ---- the tokens of a rest
+
+white_cut : (at b : ℕ) (bs : List ℕ) (k : ByteKind) → byte_kind b ≡ k → len_by k (b ∷ bs) ≡ 0 → cut byte_kind at (b ∷ bs) ≡ cut byte_kind (at + 1) bs
+white_cut at b bs White e h = cut_white byte_kind at b bs e
+white_cut at b bs Single e h = absurd (cc)
+white_cut at b bs Word e h =
+    let one : prefix_len (λ c. is_word (byte_kind c)) (b ∷ bs) ≡ 1 + prefix_len (λ c. is_word (byte_kind c)) bs = rw e refl in
+    let no : ⊥ = omega (arith, one, h) in
+    absurd no
+
+token_cut : (at b : ℕ) (bs : List ℕ) (k : ByteKind) → byte_kind b ≡ k → 0 < len_by k (b ∷ bs)
+    → cut byte_kind at (b ∷ bs) ≡ (record { at = at; bytes = take (len_by k (b ∷ bs)) (b ∷ bs) }) ∷ cut byte_kind (at + len_by k (b ∷ bs)) (drop (len_by k (b ∷ bs)) (b ∷ bs))
+token_cut at b bs White e h = let no : ⊥ = omega (arith, h) in absurd no
+token_cut at b bs Single e h = cut_single byte_kind at b bs e
+token_cut at b bs Word e h =
+    let n = prefix_len (λ c. is_word (byte_kind c)) bs in
+    let one : prefix_len (λ c. is_word (byte_kind c)) (b ∷ bs) ≡ suc n = rw e omega arith in
+    let place : at + 1 + n ≡ at + suc n = omega arith in
+    cut_word byte_kind bs at b e
+    ∙ ap (λ p. (record { at = at; bytes = b ∷ take n bs }) ∷ cut byte_kind p (drop n bs)) place
+    ∙ ap (λ m. (record { at = at; bytes = take m (b ∷ bs) }) ∷ cut byte_kind (at + m) (drop m (b ∷ bs))) (sym one)
+
+-- white space at the front
+front_white : (at : ℕ) (bs : List ℕ) → 0 < length bs → front_len bs ≡ 0 → cut byte_kind at bs ≡ cut byte_kind (at + 1) (drop 1 bs)
+front_white at [] h e = let no : ⊥ = omega (arith, h) in absurd no
+front_white at (b ∷ bs) h e = white_cut at b bs (byte_kind b) refl e
+
+-- a token at the front
+front_token : (at : ℕ) (bs : List ℕ) → 0 < front_len bs → cut byte_kind at bs ≡ (record { at = at; bytes = take (front_len bs) bs }) ∷ cut byte_kind (at + front_len bs) (drop (front_len bs) bs)
+front_token at [] h = let no : ⊥ = omega (arith, h) in absurd no
+front_token at (b ∷ bs) h = token_cut at b bs (byte_kind b) refl h
+
+-- ---- the answer behind a token
+
+further : (end : ℕ) (t : Token) (ts : List Token) (r : Result GeometryLists (Stop Cause)) → located end (t ∷ ts) (stop_one_further r) ≡ located end ts r
+further end t ts (Ok g) = refl
+further end t ts (Err (StopAt i c)) = refl
+
+by_step : (end : ℕ) (t : Token) (ts : List Token) (rest : State → Result GeometryLists (Stop Cause)) (c : Cause) (l : Option Cause) (o : Option State) (u : State)
+    → taken_by c l o t.at ≡ Ok u → located end (t ∷ ts) (watched_step rest c l o) ≡ located end ts (rest u)
+by_step end t ts rest c l None u e = absurd (cc)
+by_step end t ts rest c (Some k) (Some s) u e = absurd (cc)
+by_step end t ts rest c None (Some s) u e =
+    let same : s ≡ u = cc in
+    further end t ts (rest s) ∙ ap (λ z. located end ts (rest z)) same
+
+by_refusal : (end : ℕ) (t : Token) (ts : List Token) (rest : State → Result GeometryLists (Stop Cause)) (c : Cause) (l : Option Cause) (o : Option State) (f : WktError)
+    → taken_by c l o t.at ≡ Err f → located end (t ∷ ts) (watched_step rest c l o) ≡ Err f
+by_refusal end t ts rest c l None f e = let same : refusal c t.at ≡ f = cc in ap Err same
+by_refusal end t ts rest c (Some k) (Some s) f e = let same : refusal k t.at ≡ f = cc in ap Err same
+by_refusal end t ts rest c None (Some s) f e = absurd (cc)
+
+bytes_of : List Token → List (List ℕ)
+bytes_of ts = map (λ (t : Token). t.bytes) ts
+
+answer_step : (end : ℕ) (t : Token) (ts : List Token) (s u : State) → taken s (kind_of t.bytes) t.at ≡ Ok u → answer end (t ∷ ts) s ≡ answer end ts u
+unfolding taken
+answer_step end t ts s u e =
+    by_step end t ts (watched wkt_reader wkt_watch (map (λ (t : Token). t.bytes) ts)) (wkt_watch.cause s t.bytes) (wkt_watch.limit s t.bytes) (wkt_reader.step s t.bytes) u e
+
+answer_refusal : (end : ℕ) (t : Token) (ts : List Token) (s : State) (f : WktError) → taken s (kind_of t.bytes) t.at ≡ Err f → answer end (t ∷ ts) s ≡ Err f
+unfolding taken
+answer_refusal end t ts s f e =
+    by_refusal end t ts (watched wkt_reader wkt_watch (map (λ (t : Token). t.bytes) ts)) (wkt_watch.cause s t.bytes) (wkt_watch.limit s t.bytes) (wkt_reader.step s t.bytes) f e
+
+-- ---- the loop
+
+-- the answer to the text from the offset on, behind the state
+abbrev pub answer_from : List ℕ → ℕ → State → Result GeometryLists WktError
+answer_from text at s = answer (length text) (cut byte_kind at (drop at text)) s
+
+pub from_white : (text : List ℕ) (at : ℕ) (s : State) → at < length text → front_len (drop at text) ≡ 0 → answer_from text at s ≡ answer_from text (at + 1) s
+from_white text at s h e =
+    let some : 0 < length (drop at text) = omega (arith, length-drop at text) in
+    ap (λ ts. answer (length text) ts s) (front_white at (drop at text) some e)
+    ∙ ap (λ bs. answer (length text) (cut byte_kind (at + 1) bs) s) (drop-drop 1 at text ∙ ap (λ n. drop n text) (omega arith))
+
+pub from_token : (text : List ℕ) (at n : ℕ) (s u : State) → front_len (drop at text) ≡ n → 0 < n → taken s (kind_of (take n (drop at text))) at ≡ Ok u → answer_from text at s ≡ answer_from text (at + n) u
+from_token text at n s u e h q =
+    let cuts = subst (λ m. 0 < m → cut byte_kind at (drop at text) ≡ (record { at = at; bytes = take m (drop at text) }) ∷ cut byte_kind (at + m) (drop m (drop at text))) e (front_token at (drop at text)) in
+    ap (λ ts. answer (length text) ts s) (cuts h)
+    ∙ answer_step (length text) (record { at = at; bytes = take n (drop at text) }) (cut byte_kind (at + n) (drop n (drop at text))) s u q
+    ∙ ap (λ bs. answer (length text) (cut byte_kind (at + n) bs) u) (drop-drop n at text ∙ ap (λ m. drop m text) (omega arith))
+
+pub from_refusal : (text : List ℕ) (at n : ℕ) (s : State) (f : WktError) → front_len (drop at text) ≡ n → 0 < n → taken s (kind_of (take n (drop at text))) at ≡ Err f → answer_from text at s ≡ Err f
+from_refusal text at n s f e h q =
+    let cuts = subst (λ m. 0 < m → cut byte_kind at (drop at text) ≡ (record { at = at; bytes = take m (drop at text) }) ∷ cut byte_kind (at + m) (drop m (drop at text))) e (front_token at (drop at text)) in
+    ap (λ ts. answer (length text) ts s) (cuts h)
+    ∙ answer_refusal (length text) (record { at = at; bytes = take n (drop at text) }) (cut byte_kind (at + n) (drop n (drop at text))) s f q
