@@ -1,5 +1,5 @@
 -- The way through the bytes of a text: white space, and one token after the other.
-use Rattle.std.proofs.Common.{◌≡◌, ◌≢◌, ℕ, zero, suc, ◌+◌, ◌-◌, ◌<◌, ◌≤◌, ◌⊎◌, inl, inr, Bool, true, false, List, [], ◌∷◌, map, length, take, drop, Option, Some, None, Result, Ok, Err, refl, sym, ap, ap₂, subst, ◌∙◌, arith, length-drop}
+use Rattle.std.proofs.Common.{◌≡◌, ◌≢◌, ℕ, zero, suc, ◌+◌, ◌-◌, ◌<◌, ◌≤◌, ◌⊎◌, inl, inr, Bool, true, false, List, [], ◌∷◌, map, length, take, drop, Option, Some, None, Result, Ok, Err, refl, sym, ap, ap₂, subst, ◌∙◌, arith, length-drop, cond}
 use Rattle.std.proofs.lemmas.List.{drop-drop}
 use Rattle.std.specs.List.{prefix_len}
 use Rattle.cv_model.specs.Layers.{GeometryLists}
@@ -48,6 +48,14 @@ front_white at (b ∷ bs) h e = white_cut at b bs (byte_kind b) refl e
 front_token : (at : ℕ) (bs : List ℕ) → 0 < front_len bs → cut byte_kind at bs ≡ (record { at = at; bytes = take (front_len bs) bs }) ∷ cut byte_kind (at + front_len bs) (drop (front_len bs) bs)
 front_token at [] h = let no : ⊥ = omega (arith, h) in absurd no
 front_token at (b ∷ bs) h = token_cut at b bs (byte_kind b) refl h
+
+pub word_within : (p : ℕ → Bool) (bs : List ℕ) → prefix_len p bs ≤ length bs
+word_within p [] = omega arith
+word_within p (b ∷ bs) = by_first (p b) (word_within p bs)
+  where
+    by_first : (t : Bool) → prefix_len p bs ≤ length bs → cond t (1 + prefix_len p bs) 0 ≤ length (b ∷ bs)
+    by_first true h = omega (arith, h)
+    by_first false h = omega arith
 
 -- ---- the answer behind a token
 
@@ -106,3 +114,43 @@ from_refusal text at n s f e h q =
     let cuts = subst (λ m. 0 < m → cut byte_kind at (drop at text) ≡ (record { at = at; bytes = take m (drop at text) }) ∷ cut byte_kind (at + m) (drop m (drop at text))) e (front_token at (drop at text)) in
     ap (λ ts. answer (length text) ts s) (cuts h)
     ∙ answer_refusal (length text) (record { at = at; bytes = take n (drop at text) }) (cut byte_kind (at + n) (drop n (drop at text))) s f q
+
+-- the loop at an offset
+pub record Along (text : List ℕ) (at : ℕ) (s : State) : Type 0 where
+  pub within : at ≤ length text
+  pub same : answer_from text 0 start ≡ answer_from text at s
+
+-- white space at the offset
+pub white_more : (text rest : List ℕ) (at n : ℕ) (s : State) → Along text at s → at < length text → rest ≡ drop at text → n ≡ front_len rest → n ≡ 0 → Along text (at + 1) s
+white_more text rest at n s along h e len none = record {
+  within = omega arith;
+  same = along.same ∙ from_white text at s h (ap front_len (sym e) ∙ sym len ∙ none);
+}
+
+-- a token at the offset: its bytes are `front`, and its kind is k
+pub record IsFront (text rest front : List ℕ) (at n : ℕ) (k : Kind) : Type 0 where
+  pub rest_is : rest ≡ drop at text
+  pub len : n ≡ front_len rest
+  pub some : 0 < n
+  pub fits : n ≤ length rest
+  pub front_is : front ≡ take n rest
+  pub kind : k ≡ kind_of front
+
+kind_is : (text rest front : List ℕ) (at n : ℕ) (k : Kind) → IsFront text rest front at n k → k ≡ kind_of (take n (drop at text))
+kind_is text rest front at n k h = h.kind ∙ ap kind_of (h.front_is ∙ ap (take n) h.rest_is)
+
+len_is : (text rest front : List ℕ) (at n : ℕ) (k : Kind) → IsFront text rest front at n k → front_len (drop at text) ≡ n
+len_is text rest front at n k h = ap front_len (sym h.rest_is) ∙ sym h.len
+
+pub token_more : (text rest front : List ℕ) (at n : ℕ) (k : Kind) (s u : State) → Along text at s → IsFront text rest front at n k → taken s k at ≡ Ok u → Along text (at + n) u
+token_more text rest front at n k s u along h e =
+    let fits : n ≤ length (drop at text) = subst (λ z. n ≤ length z) h.rest_is h.fits in
+    let w = along.within in
+    record {
+      within = omega (arith, length-drop at text);
+      same = along.same ∙ from_token text at n s u (len_is text rest front at n k h) h.some (ap (λ z. taken s z at) (sym (kind_is text rest front at n k h)) ∙ e);
+    }
+
+pub token_refused : (text rest front : List ℕ) (at n : ℕ) (k : Kind) (s : State) (f : WktError) → Along text at s → IsFront text rest front at n k → taken s k at ≡ Err f → answer_from text 0 start ≡ Err f
+token_refused text rest front at n k s f along h e =
+    along.same ∙ from_refusal text at n s f (len_is text rest front at n k h) h.some (ap (λ z. taken s z at) (sym (kind_is text rest front at n k h)) ∙ e)

@@ -21,8 +21,10 @@ fn is_word_byte(byte: u8) -> bool
     !is_sign(byte)
 }
 
+#[tactic(auto, using(crate::proofs::Scans::word_within))]
 fn word_len(text: &[u8]) -> usize
-    ensures { result ≡ prefix_len (λ b. is_word (byte_kind b)) text.now }
+    ensures len { result ≡ prefix_len (λ b. is_word (byte_kind b)) text.now }
+    ensures within { result ≤ length text.now }
 {
     text.iter().take_while(|byte| is_word_byte(**byte)).count()
 }
@@ -58,4 +60,28 @@ fn rest(text: &[u8], at: usize) -> &[u8]
     ensures { result.now ≡ drop at text.now }
 {
     text.split_at(at).1
+}
+
+/// The geometry of a text, or its first refusal; or want of memory.
+#[tactic(auto, unfolding(crate::specs::Refusals::geometry_of))]
+pub fn scan(alloc: Global, text: &[u8]) -> Result<Geometry, WktError>
+    ensures ok { IfOk result (λ g. geometry_of text.now ≡ Ok g) }
+    ensures err { IfErr result (λ e. (e ≢ WktError.NoMemory) → geometry_of text.now ≡ Err e) }
+{
+    let mut reader = Reader::new(alloc);
+    let mut at = 0;
+    while at < text.len() {
+        let rest = rest(text, at);
+        let len = token_len(rest);
+        if len == 0 {
+            at += 1;
+        } else {
+            match reader.take(alloc, classify(front(rest, len)), at as u64) {
+                Ok(()) => {}
+                Err(refusal) => return Err(refusal),
+            }
+            at += len;
+        }
+    }
+    reader.finish(at as u64)
 }
