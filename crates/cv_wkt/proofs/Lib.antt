@@ -24,3 +24,5 @@ pub mod Stacks
 pub mod Steps
 -- the way through the bytes
 pub mod Scans
+-- what the tokens tell is what the state is
+pub mod Telling

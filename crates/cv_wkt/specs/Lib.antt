@@ -8,3 +8,4 @@ pub mod Stacks
 pub mod Scanning
 pub mod Ranges
 pub mod Refusals
+pub mod Leftmost
