@@ -26,3 +26,5 @@ pub mod Steps
 pub mod Scans
 -- what the tokens tell is what the state is
 pub mod Telling
+-- the limits that are told are those that are met
+pub mod Limits
