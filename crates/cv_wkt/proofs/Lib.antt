@@ -28,3 +28,5 @@ pub mod Scans
 pub mod Telling
 -- the limits that are told are those that are met
 pub mod Limits
+-- where the machine stops
+pub mod Refusing
