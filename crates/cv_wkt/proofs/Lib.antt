@@ -30,3 +30,5 @@ pub mod Telling
 pub mod Limits
 -- where the machine stops
 pub mod Refusing
+-- there is one answer, and the machine gives it
+pub mod Answering
