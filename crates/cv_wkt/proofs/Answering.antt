@@ -1,5 +1,5 @@
 -- There is one answer to a text, and it is what the machine under its watch answers.
-use Rattle.std.proofs.Common.{◌≡◌, ◌↔◌, ℕ, suc, ◌<◌, ◌≤◌, ◌⊎◌, inl, inr, List, [], ◌∷◌, map, length, take, drop, Option, Some, None, Result, Ok, Err, option_and_then, refl, sym, ap, ap₂, subst, ◌∙◌, arith}
+use Rattle.std.proofs.Common.{◌≡◌, ◌↔◌, ℕ, suc, ◌<◌, ◌≤◌, ◌⊎◌, inl, inr, List, [], ◌∷◌, map, length, take, drop, Option, Some, None, Result, Ok, Err, IfOk, IfErr, ◌≢◌, option_and_then, refl, sym, ap, ap₂, subst, ◌∙◌, arith}
 use Rattle.std.proofs.lemmas.Bool.{cases_lt}
 use Rattle.std.proofs.lemmas.Option.{slice_get_past}
 use Rattle.cv_model.specs.Layers.{GeometryLists}
@@ -155,3 +155,19 @@ geometry_exactly text g = answered_ok text g (watched wkt_reader wkt_watch (word
 pub refusal_exactly : (text : List ℕ) (f : WktError) → (geometry_of text ≡ Err f) ↔ IsRefusal text f
 unfolding geometry_of
 refusal_exactly text f = answered_err text f (watched wkt_reader wkt_watch (words text) start) (is_told (words text))
+
+-- ---- an answer that may also be want of memory
+
+pub exact_of : (r x : Result GeometryLists WktError) → IfOk r (λ g. x ≡ Ok g) → IfErr r (λ e. (e ≢ WktError.NoMemory) → x ≡ Err e) → (r ≢ Err WktError.NoMemory) → r ≡ x
+exact_of (Ok g) x h k n = sym h
+exact_of (Err e) x h k n = sym (k (λ q. n (ap Err q)))
+
+pub found_of : (text : List ℕ) (r : Result GeometryLists WktError) → IfOk r (λ g. geometry_of text ≡ Ok g) → IfOk r (IsGeometry text)
+found_of text (Ok g) h = (geometry_exactly text g).0 h
+found_of text (Err e) h = tt
+
+pub only_of : (text : List ℕ) (r : Result GeometryLists WktError) (g : GeometryLists) → r ≡ geometry_of text → IsGeometry text g → r ≡ Ok g
+only_of text r g e h = e ∙ (geometry_exactly text g).1 h
+
+pub fault_of : (text : List ℕ) (r : Result GeometryLists WktError) (f : WktError) → r ≡ geometry_of text → (r ≡ Err f) ↔ IsRefusal text f
+fault_of text r f e = (λ h. (refusal_exactly text f).0 (sym e ∙ h), λ h. e ∙ (refusal_exactly text f).1 h)

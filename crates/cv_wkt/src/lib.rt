@@ -8,7 +8,9 @@
 
 ghost use Rattle.std.specs.Prelude.{◌≡◌, ◌≤◌, ◌<◌, ◌^◌, IfSome, IfOk, List, ℤ};
 ghost use Rattle.cv_model.specs.Positions.{Position, IsCoordinate};
-ghost use Rattle.std.specs.Prelude.{◌≢◌, Ok, Err, IfErr};
+ghost use Rattle.std.specs.Prelude.{◌≢◌, ◌↔◌, Ok, Err};
+ghost use Rattle.cv_model.specs.Layers.{GeometryLists};
+ghost use Rattle.cv_wkt.specs.Leftmost.{IsGeometry, IsRefusal};
 ghost use Rattle.cv_wkt.specs.Refusals.{geometry_of};
 ghost use Rattle.cv_wkt.specs.PlainForm.{IsPlainNumber, IsPlainPolygon, points_of};
 
@@ -30,6 +32,14 @@ use std::alloc::Global;
 /// case, `SRID=digits;` in front, a tag joined to the word or apart, two to four ordinates whatever the tag, of which
 /// all but x and y are dropped, EMPTY in place of any list, rings closed or not, members of collections in reading order.
 pub fn read(alloc: Global, text: &[u8]) -> Result<Geometry, WktError>
+    // The tokens spell the geometry, none of them meets a limit, and they spell no other.
+    ensures found { IfOk result (IsGeometry text.now) }
+    ensures only { (g : GeometryLists) → IsGeometry text.now g → (result ≢ Err WktError.NoMemory) → result ≡ Ok g }
+
+    // The leftmost token that is refused decides, and the error says for which cause.
+    ensures fault { (e : WktError) → (result ≢ Err WktError.NoMemory) → (result ≡ Err e) ↔ IsRefusal text.now e }
+
+    // The same as a function.
     ensures exact { (result ≢ Err WktError.NoMemory) → result ≡ geometry_of text.now }
 {
     text::scan(alloc, text)
