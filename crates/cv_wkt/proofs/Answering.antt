@@ -1,16 +1,14 @@
 -- There is one answer to a text, and it is what the machine under its watch answers.
-use Rattle.std.proofs.Common.{◌≡◌, ◌↔◌, ℕ, suc, ◌<◌, ◌≤◌, ◌⊎◌, inl, inr, List, [], ◌∷◌, map, length, take, drop, Option, Some, None, Result, Ok, Err, IfOk, IfErr, ◌≢◌, option_and_then, refl, sym, ap, ap₂, subst, ◌∙◌, arith}
+use Rattle.std.proofs.Common.{◌≡◌, ◌↔◌, ℕ, suc, ◌<◌, ◌≤◌, ◌⊎◌, inl, inr, List, [], ◌∷◌, length, take, Some, None, Result, Ok, Err, IfOk, IfErr, ◌≢◌, option_and_then, refl, sym, ap, ap₂, subst, ◌∙◌, arith}
 use Rattle.std.proofs.lemmas.Bool.{cases_lt}
 use Rattle.std.proofs.lemmas.Option.{slice_get_past}
 use Rattle.cv_model.specs.Layers.{GeometryLists}
 use Rattle.cv_model.specs.declared.geometry.WktError.{WktError}
-use Rattle.cv_reading.specs.Machines.{run, after}
-use Rattle.cv_reading.specs.Readings.{Begins, IsFirstWrong}
-use Rattle.cv_reading.specs.Tokens.{Token}
+use Rattle.cv_reading.specs.Machines.{after}
+use Rattle.cv_reading.specs.Readings.{IsFirstWrong}
 use Rattle.cv_reading.specs.Watches.{Stop, StopAt, IsUnlimited, IsWatched, watched}
 use Rattle.cv_reading.proofs.Running.{ends_at}
 use Rattle.cv_reading.proofs.Watching.{is_watched}
-use Rattle.cv_wkt.specs.declared.kind.Kind.TheVariants.{Curve}
 use Rattle.cv_wkt.specs.declared.place.Cause.{Cause}
 use Rattle.cv_wkt.specs.declared.place.Cause.TheVariants.{Unexpected, Curved, Beyond, Deep, Full}
 use Rattle.cv_wkt.specs.Kinds.{kind_of, tokens_of}

@@ -1,22 +1,16 @@
 -- What may still come behind each state of the machine; and that it reads just that.
-use Rattle.std.proofs.Common.{◌≡◌, ◌↔◌, ℕ, zero, suc, ℤ, Bool, true, false, List, [], ◌∷◌, ◌++◌, map, Option, Some, None, IsSomeAnd, ◌⊎◌, inl, inr, refl, sym, ap, subst, ◌∙◌, append_assoc, append-nil}
+use Rattle.std.proofs.Common.{◌≡◌, ℕ, zero, suc, ℤ, Bool, true, false, List, [], ◌∷◌, ◌++◌, Option, Some, None, IsSomeAnd, ◌⊎◌, inl, inr, refl, sym, ap, ◌∙◌, append-nil}
 use Rattle.cv_model.specs.Layers.{GeometryLists}
-use Rattle.cv_reading.specs.Readings.{Reads}
 use Rattle.cv_decimal.specs.declared.fixed.Fixed.{Fixed}
-use Rattle.cv_decimal.specs.declared.fixed.Fixed.TheVariants.{Value, High, Low, NotNumber}
-use Rattle.cv_wkt.specs.declared.kind.Word.{Word}
-use Rattle.cv_wkt.specs.declared.kind.Word.TheVariants.{Point}
 use Rattle.cv_wkt.specs.declared.kind.Kind.{Kind}
-use Rattle.cv_wkt.specs.declared.kind.Kind.TheVariants.{Open, Close, Comma, Semicolon, Equals, Srid, Empty, Tag, Name, Curve, Number, Other}
+use Rattle.cv_wkt.specs.declared.kind.Kind.TheVariants.{Close, Comma, Semicolon, Equals, Tag, Number}
 use Rattle.cv_wkt.specs.declared.place.Frame.{Frame}
-use Rattle.cv_wkt.specs.declared.place.Frame.TheVariants.{OnePoint, OneMember, LinePoints, RingPoints, Members, Lines, Rings, Polygons, Geometries}
 use Rattle.cv_wkt.specs.declared.place.Sort.{Sort}
-use Rattle.cv_wkt.specs.declared.place.Sort.TheVariants.{Ordinates, Member, Group, Geometry}
+use Rattle.cv_wkt.specs.declared.place.Sort.TheVariants.{Group, Geometry}
 use Rattle.cv_wkt.specs.declared.place.Now.{Now}
 use Rattle.cv_wkt.specs.declared.place.Now.TheVariants.{Start, BehindSrid, BehindEquals, BehindDigits, Begin, BehindWord, BehindX, Behind}
-use Rattle.cv_wkt.specs.Kinds.{kind_of, word_kind, geometry_kind}
-use Rattle.cv_wkt.specs.Grammar.{group_of, item, Many, One, Several, many, Coordinate, Ordinate, Further, NoneFurther, OneFurther, TwoFurther, TagForm, NoTag, Joined, Apart, Tree, PointOf, EmptyOf, ListOf, NoMember, BareMember, MemberOf, Tagged, Last, More, coordinate, ordinate, further, tagged, spelled, Prefix, NoPrefix, SridOf, prefix, Gathered, nothing, added, closed, emptied, after, lists, Spells}
-use Rattle.cv_wkt.specs.Machine.{State, innermost, separated, behind_item, stepped, ended_at, wkt_reader}
+use Rattle.cv_wkt.specs.Grammar.{item, Many, One, Several, many, Coordinate, Ordinate, Further, NoneFurther, OneFurther, TwoFurther, Tree, Last, More, coordinate, ordinate, further, spelled, Prefix, prefix, Gathered, added, closed, after, lists}
+use Rattle.cv_wkt.specs.Machine.{State, innermost, stepped}
 
 -- ---- the further items of a list, behind its first
 

@@ -1,5 +1,5 @@
 -- The limits that the tokens tell of are those that the machine meets.
-use Rattle.std.proofs.Common.{◌≡◌, ℕ, zero, suc, ◌+◌, ◌<◌, ◌≤◌, ◌⊎◌, inl, inr, ℤ, nat_le, Bool, true, false, ◌&&◌, ◌==◌, if◌then◌else◌, List, [], ◌∷◌, ◌++◌, map, length, take, drop, slice_get, count_by, sum_by, Option, Some, None, IfSome, option_and_then, refl, sym, ap, ap₂, subst, ◌∙◌, arith, append_assoc, append-nil}
+use Rattle.std.proofs.Common.{◌≡◌, ℕ, zero, suc, ◌+◌, ◌<◌, ℤ, nat_le, Bool, true, ◌&&◌, ◌==◌, if◌then◌else◌, List, [], ◌∷◌, ◌++◌, map, take, slice_get, count_by, sum_by, Option, Some, None, IfSome, option_and_then, refl, sym, ap, subst, ◌∙◌, arith, append_assoc, append-nil}
 use Rattle.std.proofs.lemmas.Bool.Decides.{nat_tests}
 use Rattle.std.proofs.lemmas.List.Sums.{sum_by-append, fold-append}
 use Rattle.std.proofs.Common.{cond}
@@ -21,7 +21,7 @@ use Rattle.cv_wkt.specs.Kinds.{kind_of}
 use Rattle.cv_wkt.specs.Grammar.{Many, One, Several, many, Gathered}
 use Rattle.cv_wkt.specs.Machine.{State, start, separated, behind_item, stepped, wkt_reader}
 use Rattle.cv_wkt.specs.Refusals.{is_collection, collections, if_deep, limit_of, wkt_watch}
-use Rattle.cv_wkt.specs.Leftmost.{Told, tell, told, nothing_told, limit_behind, limit_at}
+use Rattle.cv_wkt.specs.Leftmost.{Told, tell, told, nothing_told, limit_behind}
 use Rattle.cv_wkt.proofs.Comings.{place}
 use Rattle.cv_wkt.proofs.Telling.{Tells, tells_step}
 

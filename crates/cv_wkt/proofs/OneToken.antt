@@ -1,20 +1,18 @@
 -- One token: what comes with it comes behind it, and the other way round.
-use Rattle.std.proofs.Common.{◌≡◌, ◌↔◌, ℕ, zero, suc, ℤ, Bool, true, false, List, [], ◌∷◌, ◌++◌, map, Option, Some, None, IsSomeAnd, ◌⊎◌, inl, inr, refl, sym, ap, subst, ◌∙◌, append_assoc, append-nil}
+use Rattle.std.proofs.Common.{◌≡◌, ℕ, ℤ, Bool, true, false, List, [], ◌∷◌, ◌++◌, Some, None, IsSomeAnd, ◌⊎◌, inl, inr, refl, sym, ap, subst, ◌∙◌, append_assoc}
 use Rattle.cv_model.specs.Layers.{GeometryLists}
-use Rattle.cv_decimal.specs.declared.fixed.Fixed.{Fixed}
-use Rattle.cv_decimal.specs.declared.fixed.Fixed.TheVariants.{Value, High, Low, NotNumber}
+use Rattle.cv_decimal.specs.declared.fixed.Fixed.TheVariants.{Value}
 use Rattle.cv_wkt.specs.declared.kind.Word.{Word}
 use Rattle.cv_wkt.specs.declared.kind.Kind.{Kind}
-use Rattle.cv_wkt.specs.declared.kind.Kind.TheVariants.{Open, Close, Comma, Semicolon, Equals, Srid, Empty, Tag, Name, Curve, Number, Other}
+use Rattle.cv_wkt.specs.declared.kind.Kind.TheVariants.{Open, Close, Comma, Empty, Tag, Name, Number}
 use Rattle.cv_wkt.specs.declared.place.Frame.{Frame}
-use Rattle.cv_wkt.specs.declared.place.Frame.TheVariants.{OnePoint, OneMember, LinePoints, RingPoints, Members, Lines, Rings, Polygons, Geometries}
-use Rattle.cv_wkt.specs.declared.place.Sort.{Sort}
+use Rattle.cv_wkt.specs.declared.place.Frame.TheVariants.{OneMember}
 use Rattle.cv_wkt.specs.declared.place.Sort.TheVariants.{Ordinates, Member, Group, Geometry}
 use Rattle.cv_wkt.specs.declared.place.Now.{Now}
-use Rattle.cv_wkt.specs.declared.place.Now.TheVariants.{Start, BehindSrid, BehindEquals, BehindDigits, Begin, BehindWord, BehindX, Behind}
-use Rattle.cv_wkt.specs.Grammar.{group_of, item, Many, One, Several, many, Coordinate, Ordinate, Further, TagForm, NoTag, Joined, Apart, Tree, PointOf, EmptyOf, ListOf, NoMember, BareMember, MemberOf, Tagged, Last, More, coordinate, ordinate, further, tagged, spelled, Prefix, NoPrefix, SridOf, prefix, Gathered, added, closed, emptied, after}
-use Rattle.cv_wkt.specs.Machine.{State, innermost, behind_word, separated, behind_item, stepped}
-use Rattle.cv_wkt.proofs.Comings.{MoreOf, more, after_more, split, join, join_spelt, join_means, Finishes, Closes, Trails, Part, maybe_tag, Comes, place, Goes, ComesBehind, trails, trail}
+use Rattle.cv_wkt.specs.declared.place.Now.TheVariants.{BehindX}
+use Rattle.cv_wkt.specs.Grammar.{item, Many, One, Several, many, Coordinate, NoTag, Joined, Apart, Tree, PointOf, EmptyOf, ListOf, NoMember, BareMember, MemberOf, Tagged, coordinate, further, spelled, Gathered, added, closed, emptied, after}
+use Rattle.cv_wkt.specs.Machine.{innermost, behind_word, separated, behind_item}
+use Rattle.cv_wkt.proofs.Comings.{more, split, join, join_spelt, join_means, Finishes, Closes, Part, Comes, place, Goes, trails, trail}
 
 -- ---- the first token of a part
 

@@ -1,25 +1,24 @@
 -- The machine reads what may come behind each of its states, and from the start the grammar.
-use Rattle.std.proofs.Common.{◌≡◌, ◌↔◌, ℕ, zero, suc, ℤ, Bool, true, false, List, [], ◌∷◌, ◌++◌, map, Option, Some, None, IsSomeAnd, ◌⊎◌, inl, inr, refl, sym, ap, subst, ◌∙◌, append_assoc, append-nil}
+use Rattle.std.proofs.Common.{◌≡◌, ◌↔◌, ℕ, zero, suc, ℤ, Bool, true, false, List, [], ◌∷◌, ◌++◌, map, Some, None, IsSomeAnd, inl, inr, refl, sym, ap, subst, ◌∙◌, append_assoc, append-nil}
 use Rattle.cv_model.specs.Layers.{GeometryLists}
 use Rattle.cv_reading.specs.Machines.{run}
 use Rattle.cv_reading.specs.Readings.{Reads, IsReading}
 use Rattle.cv_reading.proofs.Reading.{is_reading, same_reading}
 use Rattle.cv_decimal.specs.declared.fixed.Fixed.{Fixed}
-use Rattle.cv_decimal.specs.declared.fixed.Fixed.TheVariants.{Value, High, Low, NotNumber}
-use Rattle.cv_wkt.specs.declared.kind.Word.{Word}
+use Rattle.cv_decimal.specs.declared.fixed.Fixed.TheVariants.{Value}
 use Rattle.cv_wkt.specs.declared.kind.Word.TheVariants.{Point}
 use Rattle.cv_wkt.specs.declared.kind.Kind.{Kind}
-use Rattle.cv_wkt.specs.declared.kind.Kind.TheVariants.{Open, Close, Comma, Semicolon, Equals, Srid, Empty, Tag, Name, Curve, Number, Other}
+use Rattle.cv_wkt.specs.declared.kind.Kind.TheVariants.{Open, Comma, Semicolon, Equals, Srid, Empty, Tag, Name, Number}
 use Rattle.cv_wkt.specs.declared.place.Frame.{Frame}
-use Rattle.cv_wkt.specs.declared.place.Frame.TheVariants.{OnePoint, OneMember, Geometries}
+use Rattle.cv_wkt.specs.declared.place.Frame.TheVariants.{OnePoint}
 use Rattle.cv_wkt.specs.declared.place.Sort.{Sort}
 use Rattle.cv_wkt.specs.declared.place.Sort.TheVariants.{Ordinates, Member, Group, Geometry}
 use Rattle.cv_wkt.specs.declared.place.Now.{Now}
 use Rattle.cv_wkt.specs.declared.place.Now.TheVariants.{Start, BehindSrid, BehindEquals, BehindDigits, Begin, BehindWord, BehindX, Behind}
 use Rattle.cv_wkt.specs.Kinds.{kind_of, word_kind, keyword_kind, geometry_kind}
-use Rattle.cv_wkt.specs.Grammar.{group_of, item, Many, One, Several, many, Coordinate, Ordinate, Further, NoneFurther, TagForm, NoTag, Joined, Apart, Tree, PointOf, EmptyOf, ListOf, NoMember, BareMember, MemberOf, Tagged, Last, More, coordinate, ordinate, further, tagged, spelled, Prefix, NoPrefix, SridOf, prefix, Gathered, nothing, added, closed, emptied, after, lists, Spells}
-use Rattle.cv_wkt.specs.Machine.{State, start, innermost, behind_word, separated, behind_item, stepped, ended_at, wkt_reader}
-use Rattle.cv_wkt.proofs.Comings.{MoreOf, more, no_more, Finishes, Closes, Trails, Part, maybe_tag, Comes, place, Goes, ComesBehind}
+use Rattle.cv_wkt.specs.Grammar.{item, Many, One, Several, many, Coordinate, NoneFurther, NoTag, Joined, Apart, Tree, PointOf, EmptyOf, ListOf, NoMember, BareMember, MemberOf, Tagged, Last, More, coordinate, ordinate, spelled, NoPrefix, SridOf, prefix, Gathered, added, closed, emptied, lists, Spells}
+use Rattle.cv_wkt.specs.Machine.{State, start, innermost, behind_item, ended_at, wkt_reader}
+use Rattle.cv_wkt.proofs.Comings.{Finishes, Closes, Trails, Part, Comes, place, Goes, ComesBehind}
 use Rattle.cv_wkt.proofs.OneToken.{GroupFirst, NameFirst, PointFirst, MemberFirst, group_first, group_empty, group_open, name_first, name_back, point_first, point_back, member_first, member_open, member_bare, item_behind, item_before}
 
 -- ---- one token

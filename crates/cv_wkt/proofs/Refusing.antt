@@ -1,9 +1,8 @@
 -- Where the machine stops, the token is the leftmost that is refused, for the cause that it names.
-use Rattle.std.proofs.Common.{◌≡◌, ◌↔◌, ℕ, zero, suc, ◌+◌, ◌<◌, ◌≤◌, ◌⊎◌, inl, inr, ℤ, nat_le, Bool, true, false, if◌then◌else◌, List, [], ◌∷◌, ◌++◌, map, length, take, drop, slice_get, codes, Option, Some, None, Result, Ok, Err, IfSome, IsSome, IsSomeAnd, option_and_then, refl, sym, ap, ap₂, subst, ◌∙◌, arith}
-use Rattle.cv_model.specs.Layers.{GeometryLists}
-use Rattle.cv_reading.specs.Machines.{run, after, IsStuck}
+use Rattle.std.proofs.Common.{◌≡◌, ℕ, zero, suc, ◌<◌, ℤ, nat_le, Bool, true, false, if◌then◌else◌, List, [], ◌∷◌, ◌++◌, length, take, drop, slice_get, codes, Option, Some, None, IsSome, option_and_then, refl, sym, ap, subst, ◌∙◌, arith}
+use Rattle.cv_reading.specs.Machines.{after, IsStuck}
 use Rattle.cv_reading.specs.Readings.{Begins, IsFirstWrong}
-use Rattle.cv_reading.specs.Watches.{IsUnlimited, RefusesFor, StopsFor, IsFirstStop}
+use Rattle.cv_reading.specs.Watches.{RefusesFor, StopsFor, IsFirstStop}
 use Rattle.cv_reading.proofs.Reading.{begins_behind, leads_begun}
 use Rattle.cv_reading.proofs.Running.{after_push}
 use Rattle.cv_reading.proofs.Watching.{stuck_at_stop}
@@ -21,7 +20,7 @@ use Rattle.cv_wkt.specs.Kinds.{kind_of, word_kind, keyword_kind, geometry_kind}
 use Rattle.cv_wkt.specs.Grammar.{Spells}
 use Rattle.cv_wkt.specs.Machine.{State, start, behind_item, stepped, wkt_reader}
 use Rattle.cv_wkt.specs.Refusals.{not_a_name, not_a_coordinate, cause_of, collections, if_deep, if_full, limit_of, wkt_watch}
-use Rattle.cv_wkt.specs.Leftmost.{told, limit_behind, limit_at, IsCurveThere, IsFar, IsFarThere, IsLimit, RefusedFor, IsRefused}
+use Rattle.cv_wkt.specs.Leftmost.{told, limit_behind, IsFar, IsLimit, RefusedFor, IsRefused}
 use Rattle.cv_wkt.proofs.ReadsGrammar.{Rest, reads, spelt, wkt_reads}
 use Rattle.cv_wkt.proofs.Limits.{limit_there, free_before}
 

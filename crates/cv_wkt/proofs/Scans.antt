@@ -1,5 +1,5 @@
 -- The way through the bytes of a text: white space, and one token after the other.
-use Rattle.std.proofs.Common.{◌≡◌, ◌≢◌, ℕ, zero, suc, ◌+◌, ◌-◌, ◌<◌, ◌≤◌, ◌⊎◌, inl, inr, Bool, true, false, List, [], ◌∷◌, map, length, take, drop, Option, Some, None, Result, Ok, Err, refl, sym, ap, ap₂, subst, ◌∙◌, arith, length-drop, cond}
+use Rattle.std.proofs.Common.{◌≡◌, ℕ, suc, ◌+◌, ◌<◌, ◌≤◌, Bool, true, false, List, [], ◌∷◌, map, length, take, drop, Option, Some, None, Result, Ok, Err, refl, sym, ap, subst, ◌∙◌, arith, length-drop, cond}
 use Rattle.std.proofs.lemmas.List.{drop-drop}
 use Rattle.std.specs.List.{prefix_len}
 use Rattle.cv_model.specs.Layers.{GeometryLists}
@@ -8,13 +8,10 @@ use Rattle.cv_reading.specs.Tokens.{ByteKind, White, Single, Word, Token, is_wor
 use Rattle.cv_reading.specs.Watches.{Stop, StopAt, stop_one_further, watched, watched_step}
 use Rattle.cv_reading.proofs.Cutting.{cut_white, cut_single, cut_word}
 use Rattle.cv_wkt.specs.declared.kind.Kind.{Kind}
-use Rattle.cv_wkt.specs.declared.kind.Kind.TheVariants.{Name}
-use Rattle.cv_wkt.specs.declared.kind.Word.TheVariants.{Collection}
 use Rattle.cv_wkt.specs.declared.place.Cause.{Cause}
-use Rattle.cv_wkt.specs.declared.place.Cause.TheVariants.{Unexpected}
-use Rattle.cv_wkt.specs.Kinds.{byte_kind, kind_of, tokens_of}
-use Rattle.cv_wkt.specs.Machine.{State, start, stepped, Stepped, wkt_reader}
-use Rattle.cv_wkt.specs.Refusals.{cause_of, limit_of, wkt_watch, refusal, offset, located, answer, taken_by, taken, geometry_of}
+use Rattle.cv_wkt.specs.Kinds.{byte_kind, kind_of}
+use Rattle.cv_wkt.specs.Machine.{State, start, wkt_reader}
+use Rattle.cv_wkt.specs.Refusals.{wkt_watch, refusal, located, answer, taken_by, taken}
 use Rattle.cv_wkt.specs.Scanning.{len_by, front_len}
 
 -- ---- the tokens of a rest

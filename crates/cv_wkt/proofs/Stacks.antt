@@ -1,8 +1,7 @@
 -- A stack in a vector: its last item is the innermost.
-use Rattle.std.proofs.Common.{◌≡◌, ℕ, suc, ◌+◌, ◌-◌, List, [], ◌∷◌, ◌++◌, reverse, length, slice_get, Option, Some, None, refl, sym, ap, subst, ◌∙◌, arith, length-append, cond, count_by, sum_by, Bool}
+use Rattle.std.proofs.Common.{◌≡◌, ℕ, ◌+◌, ◌-◌, List, [], ◌∷◌, ◌++◌, reverse, length, slice_get, Some, refl, sym, ap, ◌∙◌, arith, length-append, cond, count_by, sum_by, Bool}
 use Rattle.std.proofs.lemmas.List.Sums.{sum_by-append}
 use Rattle.std.proofs.lemmas.List.{reverse-append, reverse-reverse}
-use Rattle.cv_wkt.specs.declared.place.Frame.{Frame}
 use Rattle.cv_wkt.specs.Stacks.{first_of}
 
 -- one item more

@@ -1,28 +1,24 @@
 -- What a step is at some tokens whatever else the state is.
-use Rattle.std.proofs.Common.{◌≡◌, ℕ, zero, suc, ◌<◌, Bool, true, false, nat_le, if◌then◌else◌, List, [], ◌∷◌, Option, Some, None, refl, sym, ap, arith, leb-false}
-use Rattle.cv_wkt.specs.Stacks.{first_of, Popped}
+use Rattle.std.proofs.Common.{◌≡◌, ℕ, zero, suc, ◌<◌, Bool, true, false, nat_le, if◌then◌else◌, List, [], ◌∷◌, Option, Some, None, refl, sym, ap, leb-false}
+use Rattle.cv_wkt.specs.Stacks.{first_of}
 use Rattle.cv_wkt.specs.declared.kind.Kind.{Kind}
-use Rattle.cv_wkt.specs.declared.kind.Kind.TheVariants.{Open, Close, Comma, Semicolon, Equals, Srid, Empty, Tag, Name, Curve, Number, Other}
+use Rattle.cv_wkt.specs.declared.kind.Kind.TheVariants.{Close, Comma, Name, Number}
 use Rattle.cv_wkt.specs.declared.place.Frame.{Frame}
 use Rattle.cv_wkt.specs.declared.place.Now.TheVariants.{Behind}
 use Rattle.cv_wkt.specs.declared.place.Cause.{Cause}
 use Rattle.cv_wkt.specs.declared.place.Cause.TheVariants.{Full}
 use Rattle.cv_wkt.specs.Grammar.{many}
-use Rattle.std.specs.Prelude.{◌≢◌}
-use Rattle.std.proofs.Common.{Result, Ok, Err, ◌∙◌}
-use Rattle.cv_model.specs.Layers.{GeometryLists}
+use Rattle.std.proofs.Common.{Ok, Err, ◌∙◌}
 use Rattle.cv_model.specs.declared.geometry.WktError.{WktError}
 use Rattle.cv_reading.specs.Watches.{watched_end}
-use Rattle.cv_wkt.specs.declared.kind.Word.{Word}
-use Rattle.cv_wkt.specs.declared.kind.Word.TheVariants.{Point, LineString, Polygon, MultiPoint, MultiLineString, MultiPolygon, Collection}
-use Rattle.cv_decimal.specs.declared.fixed.Fixed.TheVariants.{Value, High, Low, NotNumber}
-use Rattle.cv_wkt.specs.declared.place.Sort.TheVariants.{Ordinates, Member, Group, Geometry}
+use Rattle.cv_decimal.specs.declared.fixed.Fixed.TheVariants.{Value}
+use Rattle.cv_wkt.specs.declared.place.Sort.TheVariants.{Geometry}
 use Rattle.cv_wkt.specs.declared.place.Now.{Now}
-use Rattle.cv_wkt.specs.declared.place.Now.TheVariants.{Start, BehindSrid, BehindEquals, BehindDigits, Begin, BehindWord, BehindX}
+use Rattle.cv_wkt.specs.declared.place.Now.TheVariants.{Start, Begin, BehindX}
 use Rattle.cv_wkt.specs.declared.place.Cause.TheVariants.{Unexpected}
 use Rattle.cv_wkt.specs.Grammar.{lists}
 use Rattle.cv_wkt.specs.Refusals.{cause_of, limit_of, if_deep, if_full, refusal, located, answer, taken_by, taken}
-use Rattle.cv_wkt.specs.Machine.{State, Stepped, separated, ended_list, behind_item, stepped, ended_at}
+use Rattle.cv_wkt.specs.Machine.{State, Stepped, separated, behind_item, stepped, ended_at}
 
 -- a comma in a list
 pub comma_is : (fs : List Frame) (f : Frame) (s : State) → first_of fs ≡ Some f → behind_item fs Comma s ≡ separated (many f) f s

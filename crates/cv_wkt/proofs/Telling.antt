@@ -1,24 +1,19 @@
 -- What the tokens tell is what the machine's state is.
-use Rattle.std.proofs.Common.{◌≡◌, ℕ, zero, suc, ◌+◌, ◌<◌, ◌≤◌, ℤ, nat_le, Bool, true, false, ◌&&◌, ◌==◌, if◌then◌else◌, List, [], ◌∷◌, ◌++◌, map, drop, count_by, Option, Some, None, IfSome, refl, sym, ap, ap₂, subst, ◌∙◌, arith}
+use Rattle.std.proofs.Common.{◌≡◌, ℕ, zero, suc, ◌+◌, ◌≤◌, ℤ, Bool, true, false, ◌==◌, if◌then◌else◌, List, [], ◌∷◌, map, drop, Option, Some, IfSome, refl, sym, ap, ap₂, ◌∙◌, arith}
 use Rattle.std.proofs.lemmas.Bool.Decides.{nat_tests}
-use Rattle.cv_decimal.specs.declared.fixed.Fixed.{Fixed}
-use Rattle.cv_decimal.specs.declared.fixed.Fixed.TheVariants.{Value, High, Low, NotNumber}
+use Rattle.cv_decimal.specs.declared.fixed.Fixed.TheVariants.{Value}
 use Rattle.cv_wkt.specs.declared.kind.Word.{Word}
-use Rattle.cv_wkt.specs.declared.kind.Word.TheVariants.{Point, LineString, Polygon, MultiPoint, MultiLineString, MultiPolygon, Collection}
 use Rattle.cv_wkt.specs.declared.kind.Kind.{Kind}
-use Rattle.cv_wkt.specs.declared.kind.Kind.TheVariants.{Open, Close, Comma, Semicolon, Equals, Srid, Empty, Tag, Name, Curve, Number, Other}
+use Rattle.cv_wkt.specs.declared.kind.Kind.TheVariants.{Open, Close, Comma, Semicolon, Equals, Srid, Empty, Tag, Name, Number}
 use Rattle.cv_wkt.specs.declared.place.Frame.{Frame}
 use Rattle.cv_wkt.specs.declared.place.Frame.TheVariants.{OnePoint, OneMember, LinePoints, RingPoints, Members, Lines, Rings, Polygons, Geometries}
-use Rattle.cv_wkt.specs.declared.place.Sort.{Sort}
 use Rattle.cv_wkt.specs.declared.place.Sort.TheVariants.{Ordinates, Member, Group, Geometry}
 use Rattle.cv_wkt.specs.declared.place.Now.{Now}
 use Rattle.cv_wkt.specs.declared.place.Now.TheVariants.{Start, BehindSrid, BehindEquals, BehindDigits, Begin, BehindWord, BehindX, Behind}
-use Rattle.cv_wkt.specs.declared.place.Cause.{Cause}
-use Rattle.cv_wkt.specs.declared.place.Cause.TheVariants.{Deep, Full}
-use Rattle.cv_wkt.specs.Grammar.{group_of, item, Many, One, Several, many, Gathered}
+use Rattle.cv_wkt.specs.Grammar.{item, Many, One, Several, many, Gathered}
 use Rattle.cv_wkt.specs.Machine.{State, separated, behind_item, stepped}
-use Rattle.cv_wkt.specs.Refusals.{is_collection, collections, limit_of}
-use Rattle.cv_wkt.specs.Leftmost.{Told, tell, limit_behind}
+use Rattle.cv_wkt.specs.Refusals.{is_collection}
+use Rattle.cv_wkt.specs.Leftmost.{Told, tell}
 use Rattle.cv_wkt.proofs.Comings.{place}
 
 -- how many numbers stand directly before

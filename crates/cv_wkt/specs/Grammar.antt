@@ -10,7 +10,7 @@
 -- The groups are: of POINT one point, of LINESTRING points (a path), of POLYGON rings, of MULTIPOINT members,
 -- of MULTILINESTRING paths, of MULTIPOLYGON groups of rings, of GEOMETRYCOLLECTION geometries; a ring is a path.
 -- Source: the tagged text of OGC 06-103r4 without curves and surfaces, in this project's own profile.
-use Rattle.std.specs.Prelude.{◌≡◌, ℕ, ℤ, Bool, true, false, List, [], ◌∷◌, ◌++◌, map, Option, Some, None}
+use Rattle.std.specs.Prelude.{◌≡◌, ℕ, ℤ, Bool, true, false, List, [], ◌∷◌, ◌++◌, map}
 use Rattle.cv_model.specs.Positions.{Position}
 use Rattle.cv_model.specs.Layers.{GeometryLists}
 use Rattle.cv_decimal.specs.declared.fixed.Fixed.{Fixed}

@@ -1,22 +1,17 @@
 -- The machine that reads well-known text, and why it refuses.
-use Rattle.std.specs.Prelude.{◌≡◌, ℕ, zero, suc, ◌+◌, ℤ, Bool, true, false, ◌≤◌, nat_le, if◌then◌else◌, List, [], ◌∷◌, Option, Some, None, Result, Ok, Err}
-use Rattle.cv_model.specs.Positions.{Position, IsCoordinate}
+use Rattle.std.specs.Prelude.{◌≡◌, ℕ, suc, ◌+◌, ℤ, Bool, true, false, ◌≤◌, List, [], ◌∷◌, Option, Some, None}
+use Rattle.cv_model.specs.Positions.{IsCoordinate}
 use Rattle.cv_model.specs.Layers.{GeometryLists}
 use Rattle.cv_reading.specs.Machines.{Machine}
-use Rattle.cv_reading.specs.Watches.{Watch}
-use Rattle.cv_decimal.specs.declared.fixed.Fixed.{Fixed}
-use Rattle.cv_decimal.specs.declared.fixed.Fixed.TheVariants.{Value, High, Low, NotNumber}
+use Rattle.cv_decimal.specs.declared.fixed.Fixed.TheVariants.{Value}
 use Rattle.cv_wkt.specs.declared.kind.Word.{Word}
-use Rattle.cv_wkt.specs.declared.kind.Word.TheVariants.{Collection}
 use Rattle.cv_wkt.specs.declared.kind.Kind.{Kind}
-use Rattle.cv_wkt.specs.declared.kind.Kind.TheVariants.{Open, Close, Comma, Semicolon, Equals, Srid, Empty, Tag, Name, Curve, Number}
+use Rattle.cv_wkt.specs.declared.kind.Kind.TheVariants.{Open, Close, Comma, Semicolon, Equals, Srid, Empty, Tag, Name, Number}
 use Rattle.cv_wkt.specs.declared.place.Frame.{Frame}
-use Rattle.cv_wkt.specs.declared.place.Frame.TheVariants.{OnePoint, OneMember, LinePoints, RingPoints, Members, Lines, Rings, Polygons, Geometries}
-use Rattle.cv_wkt.specs.declared.place.Sort.{Sort}
+use Rattle.cv_wkt.specs.declared.place.Frame.TheVariants.{OneMember, Geometries}
 use Rattle.cv_wkt.specs.declared.place.Sort.TheVariants.{Ordinates, Member, Group, Geometry}
 use Rattle.cv_wkt.specs.declared.place.Now.{Now}
 use Rattle.cv_wkt.specs.declared.place.Now.TheVariants.{Start, BehindSrid, BehindEquals, BehindDigits, Begin, BehindWord, BehindX, Behind}
-use Rattle.cv_wkt.specs.declared.place.Cause.{Cause}
 use Rattle.cv_wkt.specs.Kinds.{kind_of}
 use Rattle.cv_wkt.specs.Grammar.{group_of, item, Many, One, Several, many, Gathered, nothing, added, closed, emptied, lists}
 

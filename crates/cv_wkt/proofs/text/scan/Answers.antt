@@ -1,7 +1,7 @@
 -- White space, a token that is taken, and one that is refused.
-use Rattle.std.proofs.Common.{◌≡◌, ◌<◌, ◌≤◌, arith}
+use Rattle.std.proofs.Common.{arith}
 use Rattle.cv_wkt.specs.Refusals.{geometry_of}
-use Rattle.cv_wkt.proofs.Scans.{Along, IsFront, white_more, token_more, token_refused}
+use Rattle.cv_wkt.proofs.Scans.{IsFront, white_more, token_more, token_refused}
 use Rattle.cv_wkt.proofs.text.scan.Goals as goal
 
 pub loop-at-preserved-then-len-eq0 : goal.loop-at-preserved-then-len-eq0
