@@ -1,19 +1,49 @@
-//! The reader of one polygon in the plain form of well-known text.
+//! The reader of well-known text, and that of one polygon in its plain form.
 //!
-//! Contract: a text is read exactly where the plain form spells it, as what it spells.
-//! Definitions: `PlainForm`, the grammar; `Reading`, what the parts of the code read.
-//! Only `plain_polygon` takes memory, for the polygon alone; no handle is needed.
+//! Contract: a text is read exactly where the grammar spells it, as what it spells, and refused at its first wrong token.
+//! Definitions: `Kinds`, the tokens; `Grammar`; `Machine` and `Refusals`, the answer as a function; for the plain form
+//! `PlainForm`, the grammar, and `Reading`, what the parts of the code read.
+//! Memory is taken for what is read and for the lists that are open; no handle is needed.
 #![tactic(auto)]
 
 ghost use Rattle.std.specs.Prelude.{◌≡◌, ◌≤◌, ◌<◌, ◌^◌, IfSome, IfOk, List, ℤ};
 ghost use Rattle.cv_model.specs.Positions.{Position, IsCoordinate};
+ghost use Rattle.std.specs.Prelude.{◌≢◌, ◌↔◌, Ok, Err};
+ghost use Rattle.cv_model.specs.Layers.{GeometryLists};
+ghost use Rattle.cv_wkt.specs.Leftmost.{IsGeometry, IsRefusal};
+ghost use Rattle.cv_wkt.specs.Refusals.{geometry_of};
 ghost use Rattle.cv_wkt.specs.PlainForm.{IsPlainNumber, IsPlainPolygon, points_of};
 
+mod kind;
 mod number;
+mod pieces;
+mod place;
 mod polygon;
+mod reader;
+mod stack;
+mod text;
 
-use cv_model::{NoMemory, Polygon};
+use cv_model::{Geometry, NoMemory, Polygon, WktError};
 use std::alloc::Global;
+
+/// The geometry of a well-known text, or why it is none.
+///
+/// Source: well-known text of OGC 06-103r4 without curves and surfaces, in this project's own profile: words in any
+/// case, `SRID=digits;` in front, a tag joined to the word or apart, two to four ordinates whatever the tag, of which
+/// all but x and y are dropped, EMPTY in place of any list, rings closed or not, members of collections in reading order.
+pub fn read(alloc: Global, text: &[u8]) -> Result<Geometry, WktError>
+    // The tokens spell the geometry, none of them meets a limit, and they spell no other.
+    ensures found { IfOk result (IsGeometry text.now) }
+    ensures only { (g : GeometryLists) → IsGeometry text.now g → (result ≢ Err WktError.NoMemory) → result ≡ Ok g }
+
+    // The leftmost token that is refused decides, and the error says for which cause.
+    ensures fault { (e : WktError) → (result ≢ Err WktError.NoMemory) → (result ≡ Err e) ↔ IsRefusal text.now e }
+
+    // The same as a function.
+    ensures exact { (result ≢ Err WktError.NoMemory) → result ≡ geometry_of text.now }
+{
+    text::scan(alloc, text)
+}
 
 /// The whole text as one plain number, in millionths.
 ///
@@ -47,6 +77,9 @@ pub fn points(polygon: &Polygon) -> u64
 {
     polygon.as_slice().iter().map(|ring| ring.len()).sum()
 }
+
+#[cfg(test)]
+mod table;
 
 #[cfg(test)]
 mod tests {

@@ -1,0 +1,92 @@
+//! What has been read of a geometry.
+
+ghost use Rattle.std.specs.Prelude.{◌≡◌, OnOk};
+ghost use Rattle.cv_wkt.specs.Grammar.{nothing, added, closed, emptied, lists};
+
+use crate::place::Frame;
+use cv_model::{Geometry, Line, NoMemory, Point, Polygon, Ring, Sequence};
+use std::alloc::Global;
+use std::marker::Model;
+use std::mem;
+
+/// The three lists of a geometry, the rings of its open polygon, and the points of its open path.
+#[derive(Drop)]
+pub struct Pieces {
+    points: Sequence<Point>,
+    lines: Sequence<Line>,
+    polygons: Sequence<Polygon>,
+    rings: Sequence<Ring>,
+    path: Sequence<Point>,
+}
+
+impl Model for Pieces {
+    ghost use Rattle.cv_wkt.specs.Grammar.{Gathered};
+
+    ghost Value = { Gathered };
+
+    ghost view = { λ p. record { points = p.points; lines = p.lines; polygons = p.polygons; rings = p.rings; path = p.path } };
+}
+
+impl Pieces {
+    pub fn new(alloc: Global) -> Pieces
+        ensures { result ≡ nothing }
+    {
+        Pieces {
+            points: Sequence::new(alloc),
+            lines: Sequence::new(alloc),
+            polygons: Sequence::new(alloc),
+            rings: Sequence::new(alloc),
+            path: Sequence::new(alloc),
+        }
+    }
+
+    /// With a point of a list.
+    pub fn add(&mut self, frame: Frame, point: Point) -> Result<(), NoMemory>
+        ensures { OnOk result (self.new ≡ added frame point self.old) }
+    {
+        match frame {
+            Frame::LinePoints | Frame::RingPoints => self.path.put(point)?,
+            _ => self.points.put(point)?,
+        }
+        Ok(())
+    }
+
+    /// With the end of a list.
+    pub fn close(&mut self, alloc: Global, frame: Frame) -> Result<(), NoMemory>
+        ensures { OnOk result (self.new ≡ closed frame self.old) }
+    {
+        match frame {
+            Frame::LinePoints => {
+                let path = mem::replace(&mut self.path, Sequence::new(alloc));
+                self.lines.put(path)?;
+            }
+            Frame::RingPoints => {
+                let path = mem::replace(&mut self.path, Sequence::new(alloc));
+                self.rings.put(path)?;
+            }
+            Frame::Rings => {
+                let rings = mem::replace(&mut self.rings, Sequence::new(alloc));
+                self.polygons.put(rings)?;
+            }
+            _ => {}
+        }
+        Ok(())
+    }
+
+    /// With an EMPTY in place of a list.
+    pub fn leave_out(&mut self, alloc: Global, frame: Frame) -> Result<(), NoMemory>
+        ensures { OnOk result (self.new ≡ emptied frame self.old) }
+    {
+        if let Frame::RingPoints = frame {
+            self.rings.put(Sequence::new(alloc))?;
+        }
+        Ok(())
+    }
+
+    /// The geometry, where no polygon and no path is open.
+    pub fn finish(self) -> Geometry
+        ensures { result ≡ lists self }
+    {
+        Geometry::of(self.points, self.lines, self.polygons)
+    }
+}
