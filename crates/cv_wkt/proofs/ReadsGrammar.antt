@@ -1,5 +1,6 @@
 -- The machine reads what may come behind each of its states, and from the start the grammar.
 use Rattle.std.proofs.Common.{◌≡◌, ◌↔◌, ℕ, zero, suc, ℤ, Bool, true, false, List, [], ◌∷◌, ◌++◌, map, Some, None, IsSomeAnd, inl, inr, refl, sym, ap, subst, ◌∙◌, append_assoc, append-nil}
+use Rattle.cv_decimal.specs.Reader.{decimal_of}
 use Rattle.cv_model.specs.Layers.{GeometryLists}
 use Rattle.cv_reading.specs.Machines.{run}
 use Rattle.cv_reading.specs.Readings.{Reads, IsReading}
@@ -165,7 +166,7 @@ Leaves C = (w : List (List ℕ)) × (v : GeometryLists) × C (map kind_of w) v
 
 -- each open list can be closed
 closes_live : (fs : List Frame) (a : Gathered) → Leaves (Closes fs a)
-unfolding kind_of word_kind keyword_kind
+unfolding kind_of word_kind keyword_kind decimal_of
 closes_live [] a = ([], lists a, (refl, refl))
 closes_live (f ∷ fs) a = by_many (item f) (many f) (closes_live fs (closed f a))
   where
@@ -179,7 +180,7 @@ trails_live (suc r) fs a = let (w, v, h) = closes_live fs a in (w, v, inl h)
 
 -- a part of each sort: `0 0`, EMPTY, `POINT EMPTY`
 part_live : (s : Sort) (fs : List Frame) (a : Gathered) → Leaves (Part s fs a)
-unfolding kind_of word_kind keyword_kind geometry_kind
+unfolding kind_of word_kind keyword_kind geometry_kind decimal_of
 part_live Ordinates fs a =
     let zero_of : Coordinate = record { value = ℤ.pos 0; digits = true } in
     let (w, v, h) = closes_live fs (added (innermost fs) (record { x = ℤ.pos 0; y = ℤ.pos 0 }) a) in
@@ -193,7 +194,7 @@ part_live Geometry fs a =
     ((80 ∷ 79 ∷ 73 ∷ 78 ∷ 84 ∷ []) ∷ (69 ∷ 77 ∷ 80 ∷ 84 ∷ 89 ∷ []) ∷ w, v, (Tagged Point NoTag (EmptyOf OnePoint), map kind_of w, refl, h))
 
 live : (p : Now) (fs : List Frame) (x : ℤ) (a : Gathered) → Leaves (Comes p fs x a)
-unfolding kind_of word_kind keyword_kind
+unfolding kind_of word_kind keyword_kind decimal_of
 live Start fs x a = let (w, v, h) = part_live Geometry fs a in (w, v, (NoPrefix, map kind_of w, refl, h))
 live BehindSrid fs x a =
     let (w, v, h) = part_live Geometry fs a in

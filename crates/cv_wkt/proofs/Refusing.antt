@@ -1,5 +1,6 @@
 -- Where the machine stops, the token is the leftmost that is refused, for the cause that it names.
 use Rattle.std.proofs.Common.{◌≡◌, ℕ, zero, suc, ◌<◌, ℤ, nat_le, Bool, true, false, if◌then◌else◌, List, [], ◌∷◌, ◌++◌, length, take, drop, slice_get, codes, Option, Some, None, IsSome, option_and_then, refl, sym, ap, subst, ◌∙◌, arith}
+use Rattle.cv_decimal.specs.Reader.{decimal_of}
 use Rattle.cv_reading.specs.Machines.{after, IsStuck}
 use Rattle.cv_reading.specs.Readings.{Begins, IsFirstWrong}
 use Rattle.cv_reading.specs.Watches.{RefusesFor, StopsFor, IsFirstStop}
@@ -246,7 +247,7 @@ end_refused tokens i s c h wrong e =
 
 -- a token that can't stand
 wrong_refused : (tokens w : List (List ℕ)) (i : ℕ) (s : State) (a : List ℕ) (c : Cause) → IsAt tokens (a ∷ w) i s → IsFirstWrong Spells tokens i → wkt_reader.step s a ≡ None → cause_of s.now (kind_of a) ≡ c → RefusedFor tokens i c
-unfolding kind_of word_kind keyword_kind geometry_kind
+unfolding kind_of word_kind keyword_kind geometry_kind decimal_of
 wrong_refused tokens w i s a Unexpected h wrong o e =
     let there = token_at tokens w i a h.rest in (
       wrong,

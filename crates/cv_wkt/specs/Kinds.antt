@@ -5,7 +5,7 @@ use Rattle.std.specs.List.{list_all}
 use Rattle.std.specs.Str.{str_eq_ignore_ascii_case}
 use Rattle.cv_reading.specs.Tokens.{ByteKind, White, Single, Word, Token, cut}
 use Rattle.cv_decimal.specs.declared.fixed.Fixed.{Fixed}
-use Rattle.cv_decimal.specs.Reading.{decimal_of}
+use Rattle.cv_decimal.specs.Reader.{decimal_of}
 use Rattle.cv_wkt.specs.declared.kind.Word.{Word as Title}
 use Rattle.cv_wkt.specs.declared.kind.Word.TheVariants.{Point, LineString, Polygon, MultiPoint, MultiLineString, MultiPolygon, Collection}
 use Rattle.cv_wkt.specs.declared.kind.Kind.{Kind}
