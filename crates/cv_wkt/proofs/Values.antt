@@ -1,5 +1,5 @@
 -- What a tree adds to what has been read is its geometry.
-use Rattle.std.proofs.Common.{◌≡◌, ℕ, List, [], ◌∷◌, ◌++◌, refl, sym, ap, ◌∙◌, append_assoc, append-nil}
+use Rattle.std.proofs.Common.{◌≡◌, List, [], ◌∷◌, ◌++◌, refl, sym, ap, ◌∙◌, append_assoc, append-nil}
 use Rattle.cv_model.specs.Positions.{Position}
 use Rattle.cv_model.specs.Layers.{GeometryLists}
 use Rattle.cv_wkt.specs.declared.kind.Word.{Word}
@@ -7,8 +7,8 @@ use Rattle.cv_wkt.specs.declared.kind.Word.TheVariants.{Point, LineString, Polyg
 use Rattle.cv_wkt.specs.declared.place.Frame.{Frame}
 use Rattle.cv_wkt.specs.declared.place.Frame.TheVariants.{OnePoint, OneMember, LinePoints, RingPoints, Members, Lines, Rings, Polygons, Geometries}
 use Rattle.cv_wkt.specs.declared.place.Sort.{Sort}
-use Rattle.cv_wkt.specs.declared.place.Sort.TheVariants.{Ordinates, Member, Group, Geometry}
-use Rattle.cv_wkt.specs.Grammar.{group_of, Many, One, Several, Tree, PointOf, EmptyOf, ListOf, NoMember, BareMember, MemberOf, Tagged, Last, More, none, joined, positions, rings_of, value}
+use Rattle.cv_wkt.specs.declared.place.Sort.TheVariants.{Ordinates, Group, Geometry}
+use Rattle.cv_wkt.specs.Grammar.{group_of, Many, One, Tree, PointOf, EmptyOf, ListOf, NoMember, BareMember, MemberOf, Tagged, Last, More, none, joined, positions, rings_of, value}
 use Rattle.cv_wkt.specs.Machine.{Gathered, nothing, added, closed, emptied, lists}
 use Rattle.cv_wkt.proofs.Comings.{after}
 
