@@ -5,12 +5,28 @@ use Rattle.cv_decimal.specs.declared.fixed.Fixed.{Fixed}
 use Rattle.cv_wkt.specs.declared.kind.Kind.{Kind}
 use Rattle.cv_wkt.specs.declared.kind.Kind.TheVariants.{Close, Comma, Semicolon, Equals, Tag, Number}
 use Rattle.cv_wkt.specs.declared.place.Frame.{Frame}
+use Rattle.cv_wkt.specs.declared.place.Frame.TheVariants.{OneMember}
 use Rattle.cv_wkt.specs.declared.place.Sort.{Sort}
 use Rattle.cv_wkt.specs.declared.place.Sort.TheVariants.{Group, Geometry}
 use Rattle.cv_wkt.specs.declared.place.Now.{Now}
 use Rattle.cv_wkt.specs.declared.place.Now.TheVariants.{Start, BehindSrid, BehindEquals, BehindDigits, Begin, BehindWord, BehindX, Behind}
-use Rattle.cv_wkt.specs.Grammar.{item, Many, One, Several, many, Coordinate, Ordinate, Further, NoneFurther, OneFurther, TwoFurther, Tree, Last, More, coordinate, ordinate, further, spelled, Prefix, prefix, Gathered, added, closed, after, lists}
+use Rattle.cv_wkt.specs.Grammar.{item, Many, One, Several, many, Coordinate, Ordinate, Further, NoneFurther, OneFurther, TwoFurther, Tree, PointOf, EmptyOf, ListOf, NoMember, BareMember, MemberOf, Tagged, Last, More, coordinate, ordinate, further, spelled, Prefix, prefix}
+use Rattle.cv_wkt.specs.Machine.{Gathered, added, closed, emptied, lists}
 use Rattle.cv_wkt.specs.Machine.{State, innermost, stepped}
+
+-- ---- what a tree adds to what has been read
+
+-- with all that a tree has, which stands in a list
+abbrev pub after : Frame → {s : Sort} {m : Many} → Tree s m → Gathered → Gathered
+after f (PointOf x y more) a = added f (record { x = x.value; y = y.value }) a
+after f (EmptyOf g) a = emptied g a
+after f (ListOf g items) a = closed g (after g items a)
+after f NoMember a = a
+after f (BareMember point) a = after f point a
+after f (MemberOf point) a = after OneMember point a
+after f (Tagged word tag group) a = after f group a
+after f (Last s part) a = after f part a
+after f (More s part parts) a = after f parts (after f part a)
 
 -- ---- the further items of a list, behind its first
 

@@ -14,6 +14,8 @@ pub mod Laws
 pub mod PlainBytes
 -- what may still come behind each state, and that the machine reads just that
 pub mod Comings
+-- what a tree adds is its geometry
+pub mod Values
 -- one token: what comes with it, and what comes behind it
 pub mod OneToken
 -- the machine reads the grammar

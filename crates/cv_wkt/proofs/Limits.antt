@@ -18,7 +18,8 @@ use Rattle.cv_wkt.specs.declared.place.Now.TheVariants.{Start, BehindSrid, Behin
 use Rattle.cv_wkt.specs.declared.place.Cause.{Cause}
 use Rattle.cv_wkt.specs.declared.place.Cause.TheVariants.{Deep, Full}
 use Rattle.cv_wkt.specs.Kinds.{kind_of}
-use Rattle.cv_wkt.specs.Grammar.{Many, One, Several, many, Gathered}
+use Rattle.cv_wkt.specs.Grammar.{Many, One, Several, many}
+use Rattle.cv_wkt.specs.Machine.{Gathered}
 use Rattle.cv_wkt.specs.Machine.{State, start, separated, behind_item, stepped, wkt_reader}
 use Rattle.cv_wkt.specs.Refusals.{is_collection, collections, if_deep, limit_of, wkt_watch}
 use Rattle.cv_wkt.specs.Leftmost.{Told, tell, told, nothing_told, limit_behind}

@@ -10,7 +10,9 @@ use Rattle.cv_wkt.specs.declared.place.Frame.TheVariants.{OneMember}
 use Rattle.cv_wkt.specs.declared.place.Sort.TheVariants.{Ordinates, Member, Group, Geometry}
 use Rattle.cv_wkt.specs.declared.place.Now.{Now}
 use Rattle.cv_wkt.specs.declared.place.Now.TheVariants.{BehindX}
-use Rattle.cv_wkt.specs.Grammar.{item, Many, One, Several, many, Coordinate, NoTag, Joined, Apart, Tree, PointOf, EmptyOf, ListOf, NoMember, BareMember, MemberOf, Tagged, coordinate, further, spelled, Gathered, added, closed, emptied, after}
+use Rattle.cv_wkt.specs.Grammar.{item, Many, One, Several, many, Coordinate, NoTag, Joined, Apart, Tree, PointOf, EmptyOf, ListOf, NoMember, BareMember, MemberOf, Tagged, coordinate, further, spelled}
+use Rattle.cv_wkt.specs.Machine.{Gathered, added, closed, emptied}
+use Rattle.cv_wkt.proofs.Comings.{after}
 use Rattle.cv_wkt.specs.Machine.{innermost, behind_word, separated, behind_item}
 use Rattle.cv_wkt.proofs.Comings.{more, split, join, join_spelt, join_means, Finishes, Closes, Part, Comes, place, Goes, trails, trail}
 

@@ -17,9 +17,11 @@ use Rattle.cv_wkt.specs.declared.place.Sort.TheVariants.{Ordinates, Member, Grou
 use Rattle.cv_wkt.specs.declared.place.Now.{Now}
 use Rattle.cv_wkt.specs.declared.place.Now.TheVariants.{Start, BehindSrid, BehindEquals, BehindDigits, Begin, BehindWord, BehindX, Behind}
 use Rattle.cv_wkt.specs.Kinds.{kind_of, word_kind, keyword_kind, geometry_kind}
-use Rattle.cv_wkt.specs.Grammar.{item, Many, One, Several, many, Coordinate, NoneFurther, NoTag, Joined, Apart, Tree, PointOf, EmptyOf, ListOf, NoMember, BareMember, MemberOf, Tagged, Last, More, coordinate, ordinate, spelled, NoPrefix, SridOf, prefix, Gathered, added, closed, emptied, lists, Spells}
+use Rattle.cv_wkt.specs.Grammar.{item, Many, One, Several, many, Coordinate, NoneFurther, NoTag, Joined, Apart, Tree, PointOf, EmptyOf, ListOf, NoMember, BareMember, MemberOf, Tagged, Last, More, coordinate, ordinate, spelled, NoPrefix, SridOf, prefix, Spells}
+use Rattle.cv_wkt.specs.Machine.{Gathered, added, closed, emptied, lists}
 use Rattle.cv_wkt.specs.Machine.{State, start, innermost, behind_item, ended_at, wkt_reader}
 use Rattle.cv_wkt.proofs.Comings.{Finishes, Closes, Trails, Part, Comes, place, Goes, ComesBehind}
+use Rattle.cv_wkt.proofs.Values.{meaning}
 use Rattle.cv_wkt.proofs.OneToken.{GroupFirst, NameFirst, PointFirst, MemberFirst, group_first, group_empty, group_open, name_first, name_back, point_first, point_back, member_first, member_open, member_bare, item_behind, item_before}
 
 -- ---- one token
@@ -226,7 +228,7 @@ reads = record {
 -- what may come at the start is a spelling
 pub spelt : (tokens : List (List ℕ)) (v : GeometryLists) → Rest start tokens v ↔ Spells tokens v
 spelt tokens v =
-    (λ (p, u, e, (t, w, d, c)). (p, t, e ∙ ap (λ z. prefix p ++ z) (d ∙ ap (λ z. spelled t ++ z) c.0 ∙ append-nil (spelled t)), c.1), λ (p, t, e, h). (p, spelled t, e, (t, [], sym (append-nil (spelled t)), (refl, h))))
+    (λ (p, u, e, (t, w, d, c)). (p, t, e ∙ ap (λ z. prefix p ++ z) (d ∙ ap (λ z. spelled t ++ z) c.0 ∙ append-nil (spelled t)), c.1 ∙ meaning t), λ (p, t, e, h). (p, spelled t, e, (t, [], sym (append-nil (spelled t)), (refl, h ∙ sym (meaning t)))))
 
 -- the machine's answer is the geometry of the tokens, or their first wrong place
 pub wkt_reads : (tokens : List (List ℕ)) → IsReading Spells tokens (run wkt_reader tokens start)

@@ -16,7 +16,7 @@ use Rattle.cv_wkt.specs.declared.place.Sort.TheVariants.{Geometry}
 use Rattle.cv_wkt.specs.declared.place.Now.{Now}
 use Rattle.cv_wkt.specs.declared.place.Now.TheVariants.{Start, Begin, BehindX}
 use Rattle.cv_wkt.specs.declared.place.Cause.TheVariants.{Unexpected}
-use Rattle.cv_wkt.specs.Grammar.{lists}
+use Rattle.cv_wkt.specs.Machine.{lists}
 use Rattle.cv_wkt.specs.Refusals.{cause_of, limit_of, if_deep, if_full, refusal, located, answer, taken_by, taken}
 use Rattle.cv_wkt.specs.Machine.{State, Stepped, separated, behind_item, stepped, ended_at}
 

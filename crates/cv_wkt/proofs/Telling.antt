@@ -10,7 +10,8 @@ use Rattle.cv_wkt.specs.declared.place.Frame.TheVariants.{OnePoint, OneMember, L
 use Rattle.cv_wkt.specs.declared.place.Sort.TheVariants.{Ordinates, Member, Group, Geometry}
 use Rattle.cv_wkt.specs.declared.place.Now.{Now}
 use Rattle.cv_wkt.specs.declared.place.Now.TheVariants.{Start, BehindSrid, BehindEquals, BehindDigits, Begin, BehindWord, BehindX, Behind}
-use Rattle.cv_wkt.specs.Grammar.{item, Many, One, Several, many, Gathered}
+use Rattle.cv_wkt.specs.Grammar.{item, Many, One, Several, many}
+use Rattle.cv_wkt.specs.Machine.{Gathered}
 use Rattle.cv_wkt.specs.Machine.{State, separated, behind_item, stepped}
 use Rattle.cv_wkt.specs.Refusals.{is_collection}
 use Rattle.cv_wkt.specs.Leftmost.{Told, tell}

@@ -134,51 +134,41 @@ prefix (SridOf n) = Srid ∷ Equals ∷ Number n true ∷ Semicolon ∷ []
 
 -- ---- their geometry
 
--- what has been read: the three lists, the rings of the polygon that is open, and the points of the path that is
-pub record Gathered : Type 0 where
-  pub points : List Position
-  pub lines : List (List Position)
-  pub polygons : List (List (List Position))
-  pub rings : List (List Position)
-  pub path : List Position
+abbrev pub none : GeometryLists
+none = record { points = []; lines = []; polygons = [] }
 
-abbrev pub nothing : Gathered
-nothing = record { points = []; lines = []; polygons = []; rings = []; path = [] }
+-- what one has and then what the other has
+abbrev pub joined : GeometryLists → GeometryLists → GeometryLists
+joined g h = record { points = g.points ++ h.points; lines = g.lines ++ h.lines; polygons = g.polygons ++ h.polygons }
 
--- with a point in a list
-abbrev pub added : Frame → Position → Gathered → Gathered
-added LinePoints p a = record a { path = a.path ++ p ∷ [] }
-added RingPoints p a = record a { path = a.path ++ p ∷ [] }
-added _ p a = record a { points = a.points ++ p ∷ [] }
+-- the points of a path
+abbrev pub positions : {m : Many} → Tree Ordinates m → List Position
+positions (PointOf x y more) = (record { x = x.value; y = y.value }) ∷ []
+positions (Last _ point) = positions point
+positions (More _ point points) = positions point ++ positions points
 
--- with the end of a list: of a line, a ring, a polygon
-abbrev pub closed : Frame → Gathered → Gathered
-closed LinePoints a = record a { lines = a.lines ++ a.path ∷ []; path = [] }
-closed RingPoints a = record a { rings = a.rings ++ a.path ∷ []; path = [] }
-closed Rings a = record a { polygons = a.polygons ++ a.rings ∷ []; rings = [] }
-closed _ a = a
+-- the rings of a polygon; an EMPTY one has no points
+abbrev pub rings_of : {m : Many} → Tree (Group RingPoints) m → List (List Position)
+rings_of (EmptyOf _) = [] ∷ []
+rings_of (ListOf _ points) = positions points ∷ []
+rings_of (Last _ ring) = rings_of ring
+rings_of (More _ ring rings) = rings_of ring ++ rings_of rings
 
--- with an EMPTY: a ring of no points; else nothing
-abbrev pub emptied : Frame → Gathered → Gathered
-emptied RingPoints a = record a { rings = a.rings ++ [] ∷ [] }
-emptied _ a = a
-
--- with all that a tree has, which stands in a list
-abbrev pub after : Frame → {s : Sort} {m : Many} → Tree s m → Gathered → Gathered
-after f (PointOf x y more) a = added f (record { x = x.value; y = y.value }) a
-after f (EmptyOf g) a = emptied g a
-after f (ListOf g items) a = closed g (after g items a)
-after f NoMember a = a
-after f (BareMember point) a = after f point a
-after f (MemberOf point) a = after OneMember point a
-after f (Tagged word tag group) a = after f group a
-after f (Last s part) a = after f part a
-after f (More s part parts) a = after f parts (after f part a)
-
-abbrev pub lists : Gathered → GeometryLists
-lists a = record { points = a.points; lines = a.lines; polygons = a.polygons }
+-- the geometry of a tree: a path is a line, rings are a polygon, and any other list is what its items are, in reading order
+abbrev pub value : {s : Sort} {m : Many} → Tree s m → GeometryLists
+value (PointOf x y more) = record none { points = (record { x = x.value; y = y.value }) ∷ [] }
+value (EmptyOf f) = none
+value (ListOf LinePoints points) = record none { lines = positions points ∷ [] }
+value (ListOf Rings rings) = record none { polygons = rings_of rings ∷ [] }
+value (ListOf f items) = value items
+value NoMember = none
+value (BareMember point) = value point
+value (MemberOf point) = value point
+value (Tagged word tag group) = value group
+value (Last s part) = value part
+value (More s part parts) = joined (value part) (value parts)
 
 -- the tokens, given by their bytes, spell the geometry
 abbrev pub Spells : List (List ℕ) → GeometryLists → Type 0
 Spells tokens g =
-    (p : Prefix) × (t : Tree Geometry One) × (map kind_of tokens ≡ prefix p ++ spelled t) × (g ≡ lists (after Geometries t nothing))
+    (p : Prefix) × (t : Tree Geometry One) × (map kind_of tokens ≡ prefix p ++ spelled t) × (g ≡ value t)

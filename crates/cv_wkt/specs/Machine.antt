@@ -1,6 +1,6 @@
 -- The machine that reads well-known text, and why it refuses.
-use Rattle.std.specs.Prelude.{◌≡◌, ℕ, suc, ◌+◌, ℤ, Bool, true, false, ◌≤◌, List, [], ◌∷◌, Option, Some, None}
-use Rattle.cv_model.specs.Positions.{IsCoordinate}
+use Rattle.std.specs.Prelude.{◌≡◌, ℕ, suc, ◌+◌, ℤ, Bool, true, false, ◌≤◌, List, [], ◌∷◌, ◌++◌, Option, Some, None}
+use Rattle.cv_model.specs.Positions.{Position, IsCoordinate}
 use Rattle.cv_model.specs.Layers.{GeometryLists}
 use Rattle.cv_reading.specs.Machines.{Machine}
 use Rattle.cv_decimal.specs.declared.fixed.Fixed.TheVariants.{Value}
@@ -8,12 +8,49 @@ use Rattle.cv_wkt.specs.declared.kind.Word.{Word}
 use Rattle.cv_wkt.specs.declared.kind.Kind.{Kind}
 use Rattle.cv_wkt.specs.declared.kind.Kind.TheVariants.{Open, Close, Comma, Semicolon, Equals, Srid, Empty, Tag, Name, Number}
 use Rattle.cv_wkt.specs.declared.place.Frame.{Frame}
-use Rattle.cv_wkt.specs.declared.place.Frame.TheVariants.{OneMember, Geometries}
+use Rattle.cv_wkt.specs.declared.place.Frame.TheVariants.{OneMember, LinePoints, RingPoints, Rings, Geometries}
 use Rattle.cv_wkt.specs.declared.place.Sort.TheVariants.{Ordinates, Member, Group, Geometry}
 use Rattle.cv_wkt.specs.declared.place.Now.{Now}
 use Rattle.cv_wkt.specs.declared.place.Now.TheVariants.{Start, BehindSrid, BehindEquals, BehindDigits, Begin, BehindWord, BehindX, Behind}
 use Rattle.cv_wkt.specs.Kinds.{kind_of}
-use Rattle.cv_wkt.specs.Grammar.{group_of, item, Many, One, Several, many, Gathered, nothing, added, closed, emptied, lists}
+use Rattle.cv_wkt.specs.Grammar.{group_of, item, Many, One, Several, many}
+
+-- ---- what has been read
+
+-- what has been read: the three lists, the rings of the polygon that is open, and the points of the path that is
+pub record Gathered : Type 0 where
+  pub points : List Position
+  pub lines : List (List Position)
+  pub polygons : List (List (List Position))
+  pub rings : List (List Position)
+  pub path : List Position
+
+abbrev pub nothing : Gathered
+nothing = record { points = []; lines = []; polygons = []; rings = []; path = [] }
+
+-- with a point in a list
+abbrev pub added : Frame → Position → Gathered → Gathered
+added LinePoints p a = record a { path = a.path ++ p ∷ [] }
+added RingPoints p a = record a { path = a.path ++ p ∷ [] }
+added _ p a = record a { points = a.points ++ p ∷ [] }
+
+-- with the end of a list: of a line, a ring, a polygon
+abbrev pub closed : Frame → Gathered → Gathered
+closed LinePoints a = record a { lines = a.lines ++ a.path ∷ []; path = [] }
+closed RingPoints a = record a { rings = a.rings ++ a.path ∷ []; path = [] }
+closed Rings a = record a { polygons = a.polygons ++ a.rings ∷ []; rings = [] }
+closed _ a = a
+
+-- with an EMPTY: a ring of no points; else nothing
+abbrev pub emptied : Frame → Gathered → Gathered
+emptied RingPoints a = record a { rings = a.rings ++ [] ∷ [] }
+emptied _ a = a
+
+-- the three lists
+abbrev pub lists : Gathered → GeometryLists
+lists a = record { points = a.points; lines = a.lines; polygons = a.polygons }
+
+-- ---- the state
 
 -- what comes next, the open lists, innermost first, an x that waits for its y, how many vertices there are, and what has been read
 pub record State : Type 0 where

@@ -1,7 +1,7 @@
 //! What has been read of a geometry.
 
 ghost use Rattle.std.specs.Prelude.{◌≡◌, OnOk};
-ghost use Rattle.cv_wkt.specs.Grammar.{nothing, added, closed, emptied, lists};
+ghost use Rattle.cv_wkt.specs.Machine.{nothing, added, closed, emptied, lists};
 
 use crate::place::Frame;
 use cv_model::{Geometry, Line, NoMemory, Point, Polygon, Ring, Sequence};
@@ -20,7 +20,7 @@ pub struct Pieces {
 }
 
 impl Model for Pieces {
-    ghost use Rattle.cv_wkt.specs.Grammar.{Gathered};
+    ghost use Rattle.cv_wkt.specs.Machine.{Gathered};
 
     ghost Value = { Gathered };
 
