@@ -5,10 +5,7 @@ use cv_model::{NoMemory, Sequence, Text};
 use cv_outside::Open;
 use cv_top::{End, Which, run};
 use std::alloc::{AllocError, Global};
-use std::rt::Files;
-use std::sync::Wait;
 use std::test::Fail;
-use std::thread::Threads;
 use std::{fs, io};
 
 const TEXT: &str =
@@ -36,46 +33,37 @@ fn pixmap(alloc: Global, rows: &str) -> Result<Vec<u8>, AllocError> {
     Ok(bytes)
 }
 
-// The command over the real files and standard output.
-fn play<R: Threads + Wait + Sync + Files + Print>(rt: &R, alloc: Global, line: &str) -> End {
-    match words(alloc, line) {
-        Ok(words) => run(
-            rt,
-            alloc,
-            words.as_slice(),
-            &mut FileShelf::new(rt),
-            &mut FileTray::new(rt),
-            &mut Output::new(io::writer(rt)),
-            &Open,
-        ),
-        Err(_) => End::NoMemory,
-    }
-}
-
 #[test]
 fn real_files_are_read_and_written(rt: HostRuntime) -> Result<(), Fail> {
     let alloc = rt.alloc();
     fs::write(&rt, "map.csv", TEXT)?;
-    let end = play(&rt, alloc, "quick map.csv map.ppm 4 4 0 0 4 4 010203");
-    assert_eq!(rt; end, End::Done);
+    let (layer, output) = (Which::Layer(0), Which::Output(1));
+    for (line, want) in [
+        ("quick map.csv map.ppm 4 4 0 0 4 4 010203", End::Done),
+        (
+            "quick none.csv map.ppm 4 4 0 0 4 4 010203",
+            End::Missing(layer),
+        ),
+        ("quick . map.ppm 4 4 0 0 4 4 010203", End::ReadFault(layer)),
+        (
+            "quick map.csv . 4 4 0 0 4 4 010203",
+            End::WriteFault(output),
+        ),
+    ] {
+        let words = words(alloc, line)?;
+        let end = run(
+            &rt,
+            alloc,
+            words.as_slice(),
+            &mut FileShelf::new(&rt),
+            &mut FileTray::new(&rt),
+            &mut Output::new(io::writer(&rt)),
+            &Open,
+        );
+        assert_eq!(rt; end, want, "{line}");
+    }
     let picture = fs::read(&rt, "map.ppm")?;
     let want = pixmap(alloc, "####/#.##/####/##..")?;
     assert_eq!(rt; picture.as_slice(), want.as_slice());
-    for (end, line) in [
-        (
-            End::Missing(Which::Layer(0)),
-            "quick none.csv map.ppm 4 4 0 0 4 4 010203",
-        ),
-        (
-            End::ReadFault(Which::Layer(0)),
-            "quick . map.ppm 4 4 0 0 4 4 010203",
-        ),
-        (
-            End::WriteFault(Which::Output(1)),
-            "quick map.csv . 4 4 0 0 4 4 010203",
-        ),
-    ] {
-        assert_eq!(rt; play(&rt, alloc, line), end, "{line}");
-    }
     Ok(())
 }
