@@ -1,4 +1,4 @@
--- The machine that reads well-known text, and why it refuses.
+-- The machine that reads well-known text, a token at a time.
 use Rattle.std.specs.Prelude.{◌≡◌, ℕ, suc, ◌+◌, ℤ, Bool, true, false, ◌≤◌, List, [], ◌∷◌, ◌++◌, Option, Some, None}
 use Rattle.cv_model.specs.Positions.{Position, IsCoordinate}
 use Rattle.cv_model.specs.Layers.{GeometryLists}

@@ -24,12 +24,19 @@ pub enum Word {
 /// What a token is.
 #[derive(Clone, Copy)]
 pub enum Kind {
+    /// `(`
     Open,
+    /// `)`
     Close,
+    /// `,`
     Comma,
+    /// `;`
     Semicolon,
+    /// `=`
     Equals,
+    /// `SRID`
     Srid,
+    /// `EMPTY`
     Empty,
     /// `Z`, `M` or `ZM` apart from a word.
     Tag,
@@ -39,6 +46,7 @@ pub enum Kind {
     Curve,
     /// A decimal, and whether it consists of digits alone.
     Number(Fixed, bool),
+    /// A token that stands nowhere.
     Other,
 }
 

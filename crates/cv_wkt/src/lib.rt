@@ -1,14 +1,14 @@
 //! The reader of well-known text, and that of one polygon in its plain form.
 //!
-//! Contract: a text is read exactly where the grammar spells it, as what it spells, and refused at its first wrong token.
-//! Definitions: `Kinds`, the tokens; `Grammar`; `Machine` and `Refusals`, the answer as a function; for the plain form
-//! `PlainForm`, the grammar, and `Reading`, what the parts of the code read.
+//! Contract: a text is read exactly where the grammar spells it, as what it spells, and else the leftmost token decides.
+//! Definitions: `Kinds`, the tokens; `Grammar`, the trees, their spelling and their geometry; `Leftmost`, where a text is
+//! refused, said of its tokens alone; `Machine` and `Refusals`, the same answer as a function. For the plain form
+//! `PlainForm`, its grammar, and `Reading`, what the parts of the code read.
 //! Memory is taken for what is read and for the lists that are open; no handle is needed.
 #![tactic(auto)]
 
-ghost use Rattle.std.specs.Prelude.{◌≡◌, ◌≤◌, ◌<◌, ◌^◌, IfSome, IfOk, List, ℤ};
+ghost use Rattle.std.specs.Prelude.{◌≡◌, ◌≢◌, ◌↔◌, ◌≤◌, ◌<◌, ◌^◌, IfSome, IfOk, Ok, Err, List, ℤ};
 ghost use Rattle.cv_model.specs.Positions.{Position, IsCoordinate};
-ghost use Rattle.std.specs.Prelude.{◌≢◌, ◌↔◌, Ok, Err};
 ghost use Rattle.cv_model.specs.Layers.{GeometryLists};
 ghost use Rattle.cv_wkt.specs.Leftmost.{IsGeometry, IsRefusal};
 ghost use Rattle.cv_wkt.specs.Refusals.{geometry_of};

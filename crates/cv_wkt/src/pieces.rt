@@ -28,6 +28,7 @@ impl Model for Pieces {
 }
 
 impl Pieces {
+    /// Nothing has been read.
     pub fn new(alloc: Global) -> Pieces
         ensures { result ≡ nothing }
     {

@@ -69,10 +69,15 @@ pub enum Now {
 /// Why a token is refused.
 #[derive(Clone, Copy)]
 pub enum Cause {
+    /// It can't stand there.
     Unexpected,
+    /// A curve's or a surface's word in place of a geometry's.
     Curved,
+    /// An x or y beyond the range.
     Beyond,
+    /// A collection within eight.
     Deep,
+    /// One vertex too many.
     Full,
 }
 

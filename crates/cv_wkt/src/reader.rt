@@ -36,6 +36,7 @@ impl Model for Reader {
 }
 
 impl Reader {
+    /// Before the first token.
     pub fn new(alloc: Global) -> Reader
         ensures { result ≡ start }
     {

@@ -34,6 +34,7 @@ fn is_collection(frame: Frame) -> bool
 }
 
 impl Stack {
+    /// No list is open.
     pub fn new(alloc: Global) -> Stack
         ensures { result ≡ [] }
     {
@@ -61,6 +62,7 @@ impl Stack {
             .count() as u64
     }
 
+    /// Opens a list within the others.
     #[tactic(auto, using(crate::proofs::Stacks::reverse_pushed))]
     pub fn push(&mut self, frame: Frame) -> Result<(), NoMemory>
         ensures { OnOk result (self.new ≡ frame ∷ self.old) }
@@ -69,6 +71,7 @@ impl Stack {
         Ok(())
     }
 
+    /// Closes the innermost list, if there is one, and answers which it was.
     #[tactic(auto, using(crate::proofs::Stacks::reverse_popped))]
     pub fn pop(&mut self) -> Option<Frame>
         ensures { Popped result self.old self.new }
