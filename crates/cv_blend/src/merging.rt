@@ -36,8 +36,8 @@ fn channel(mode: Blend, alpha: u8, backdrop: u8, source: u8) -> u8
 ///
 /// Opacity is from 0 (nothing of the layer is seen) to 255 (the layer as painted).
 ///
-/// Source: W3C Compositing and Blending Level 1, blending over an opaque backdrop, in whole numbers; divisions
-/// round a half upwards.
+/// Source: W3C Compositing and Blending Level 1, blending over an opaque backdrop, in whole numbers;
+/// divisions round a half upwards.
 pub fn merge(backdrop: Rgb, source: Rgba, opacity: u8, mode: Blend) -> Rgb
     ensures { result ≡ merge backdrop source opacity mode }
 {

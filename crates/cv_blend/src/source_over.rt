@@ -36,7 +36,8 @@ fn channel(sa: u8, cs: u8, ba: u8, cb: u8) -> u8
 ///
 /// Where both are transparent, the channels of the answer are 0.
 ///
-/// Source: W3C Compositing and Blending Level 1, source-over, in whole numbers; divisions round a half upwards.
+/// Source: W3C Compositing and Blending Level 1, source-over, in whole numbers; divisions round a half
+/// upwards.
 pub fn over(source: Rgba, backdrop: Rgba) -> Rgba
     ensures { result ≡ over source backdrop }
 {

@@ -23,6 +23,7 @@ pub struct Kept {
 }
 
 impl Kept {
+    /// What is kept before the first mark: no digit, no sign, no exponent.
     pub fn nothing() -> Kept
         ensures { result ≡ nothing_kept }
     {

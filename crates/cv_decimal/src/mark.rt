@@ -16,6 +16,7 @@ pub enum Mark {
 }
 
 impl Mark {
+    /// The mark that a byte stands for; `Other` where it stands in no decimal.
     pub fn of(byte: u8) -> Mark
         ensures { result ≡ mark_of byte }
     {

@@ -1,7 +1,8 @@
 //! Views of the map, and the exact tests of geometries against pixel centres.
 //!
 //! Contract: each call answers exactly what the definition of its name says, for all values of its types.
-//! Definitions: `Views` here; `Views`, `Polygons`, `Pens` and `Markers` of `cv_model`. Laws: `ViewLaws`, `Tilings`.
+//! Definitions: `Views` here; `Views`, `Polygons`, `Pens` and `Markers` of `cv_model`.
+//! Laws: `ViewLaws`, `Tilings`.
 //! No call takes memory, no handle is needed.
 #![tactic(auto)]
 

@@ -7,7 +7,8 @@ ghost use Rattle.cv_model.specs.Markers.{covers, is_marked};
 use crate::measures::{product, reach};
 use cv_model::{Point, Point2, Shape};
 
-/// Whether the marker of radius `r` on a point covers a position; `r` and the position are in doubled millionths.
+/// Whether the marker of radius `r` on a point covers a position; `r` and the position are in doubled
+/// millionths.
 pub fn marked(shape: Shape, at: Point, p: Point2, r: i64) -> bool
     requires { IsRadius r }
     ensures { result ≡ is_marked shape r p at }

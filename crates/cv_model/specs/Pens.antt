@@ -5,6 +5,7 @@ use Rattle.std.specs.Prelude.{◌^◌, Bool, not, ◌&&◌, ℤ, pos, ◌+ℤ◌
 use Rattle.std.specs.Int.{int_max, int_min}
 use Rattle.std.specs.List.{list_all}
 use Rattle.cv_model.specs.Positions.{Position, doubled}
+use Rattle.cv_model.specs.Polygons.{edges_from}
 
 -- half the width of a pen or of a marker is from 0 to 2^60 doubled millionths
 abbrev pub IsRadius : ℤ → Type 0
@@ -36,3 +37,9 @@ meets r p a b = overlaps r p.x a.x b.x && overlaps r p.y a.y b.y && straddles a 
 -- an edge of a geometry is hit by the pen of half-width r at the doubled position p
 abbrev pub is_near : ℤ → Position → Position × Position → Bool
 is_near r p edge = meets r p (doubled edge.0) (doubled edge.1)
+
+-- the segments of a line: each point with the next, and of a single point the one from it to itself
+abbrev pub segments : List Position → List (Position × Position)
+segments [] = []
+segments (a ∷ []) = (a, a) ∷ []
+segments (a ∷ b ∷ rest) = edges_from a (b ∷ rest)

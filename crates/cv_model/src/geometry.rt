@@ -18,7 +18,7 @@ pub struct Geometry {
 }
 
 impl Model for Geometry {
-    ghost use Rattle.cv_model.specs.Layers.{GeometryLists};
+    ghost use Rattle.cv_model.specs.Geometries.{GeometryLists};
 
     ghost Value = { GeometryLists };
 

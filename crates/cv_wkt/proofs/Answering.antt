@@ -2,7 +2,7 @@
 use Rattle.std.proofs.Common.{◌≡◌, ◌↔◌, ℕ, suc, ◌<◌, ◌≤◌, ◌⊎◌, inl, inr, List, [], ◌∷◌, length, take, Some, None, Result, Ok, Err, IfOk, IfErr, ◌≢◌, option_and_then, refl, sym, ap, ap₂, subst, ◌∙◌, arith}
 use Rattle.std.proofs.lemmas.Bool.{cases_lt}
 use Rattle.std.proofs.lemmas.Option.{slice_get_past}
-use Rattle.cv_model.specs.Layers.{GeometryLists}
+use Rattle.cv_model.specs.Geometries.{GeometryLists}
 use Rattle.cv_model.specs.declared.geometry.WktError.{WktError}
 use Rattle.cv_reading.specs.Machines.{after}
 use Rattle.cv_reading.specs.Readings.{IsFirstWrong}

@@ -1,6 +1,6 @@
 -- What may still come behind each state of the machine; and that it reads just that.
 use Rattle.std.proofs.Common.{◌≡◌, ℕ, zero, suc, ℤ, Bool, true, false, List, [], ◌∷◌, ◌++◌, Option, Some, None, IsSomeAnd, ◌⊎◌, inl, inr, refl, sym, ap, ◌∙◌, append-nil}
-use Rattle.cv_model.specs.Layers.{GeometryLists}
+use Rattle.cv_model.specs.Geometries.{GeometryLists}
 use Rattle.cv_decimal.specs.declared.fixed.Fixed.{Fixed}
 use Rattle.cv_wkt.specs.declared.kind.Kind.{Kind}
 use Rattle.cv_wkt.specs.declared.kind.Kind.TheVariants.{Close, Comma, Semicolon, Equals, Tag, Number}

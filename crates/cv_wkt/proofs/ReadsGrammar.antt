@@ -1,7 +1,7 @@
 -- The machine reads what may come behind each of its states, and from the start the grammar.
 use Rattle.std.proofs.Common.{◌≡◌, ◌↔◌, ℕ, zero, suc, ℤ, Bool, true, false, List, [], ◌∷◌, ◌++◌, map, Some, None, IsSomeAnd, inl, inr, refl, sym, ap, subst, ◌∙◌, append_assoc, append-nil}
 use Rattle.cv_decimal.specs.Reader.{decimal_of}
-use Rattle.cv_model.specs.Layers.{GeometryLists}
+use Rattle.cv_model.specs.Geometries.{GeometryLists}
 use Rattle.cv_reading.specs.Machines.{run}
 use Rattle.cv_reading.specs.Readings.{Reads, IsReading}
 use Rattle.cv_reading.proofs.Reading.{is_reading, same_reading}

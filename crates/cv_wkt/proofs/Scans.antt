@@ -2,7 +2,7 @@
 use Rattle.std.proofs.Common.{◌≡◌, ℕ, suc, ◌+◌, ◌<◌, ◌≤◌, Bool, true, false, List, [], ◌∷◌, map, length, take, drop, Option, Some, None, Result, Ok, Err, refl, sym, ap, subst, ◌∙◌, arith, length-drop, cond}
 use Rattle.std.proofs.lemmas.List.{drop-drop}
 use Rattle.std.specs.List.{prefix_len}
-use Rattle.cv_model.specs.Layers.{GeometryLists}
+use Rattle.cv_model.specs.Geometries.{GeometryLists}
 use Rattle.cv_model.specs.declared.geometry.WktError.{WktError}
 use Rattle.cv_reading.specs.Tokens.{ByteKind, White, Single, Word, Token, is_word, cut}
 use Rattle.cv_reading.specs.Watches.{Stop, StopAt, stop_one_further, watched, watched_step}

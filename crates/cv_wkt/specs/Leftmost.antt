@@ -1,6 +1,6 @@
 -- What a text is read as, and where it is refused, said of its tokens alone.
 use Rattle.std.specs.Prelude.{◌≡◌, ℕ, suc, ◌+◌, ◌<◌, ◌≤◌, nat_le, Bool, false, ◌&&◌, ◌==◌, if◌then◌else◌, List, [], ◌∷◌, ◌++◌, map, fold, length, take, drop, slice_get, count_by, codes, Option, Some, None, option_and_then}
-use Rattle.cv_model.specs.Layers.{GeometryLists}
+use Rattle.cv_model.specs.Geometries.{GeometryLists}
 use Rattle.cv_model.specs.declared.geometry.WktError.{WktError}
 use Rattle.cv_reading.specs.Tokens.{Token}
 use Rattle.cv_reading.specs.Readings.{Begins, IsFirstWrong}

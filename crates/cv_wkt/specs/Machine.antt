@@ -1,7 +1,7 @@
 -- The machine that reads well-known text, a token at a time.
 use Rattle.std.specs.Prelude.{◌≡◌, ℕ, suc, ◌+◌, ℤ, Bool, true, false, ◌≤◌, List, [], ◌∷◌, ◌++◌, Option, Some, None}
 use Rattle.cv_model.specs.Positions.{Position, IsCoordinate}
-use Rattle.cv_model.specs.Layers.{GeometryLists}
+use Rattle.cv_model.specs.Geometries.{GeometryLists}
 use Rattle.cv_reading.specs.Machines.{Machine}
 use Rattle.cv_decimal.specs.declared.fixed.Fixed.TheVariants.{Value}
 use Rattle.cv_wkt.specs.declared.kind.Word.{Word}

@@ -1,6 +1,6 @@
 -- Why well-known text is refused, and what a reader answers.
 use Rattle.std.specs.Prelude.{ℕ, zero, suc, nat_le, Bool, true, false, if◌then◌else◌, List, [], ◌∷◌, map, length, count_by, Option, Some, None, Result, Ok, Err}
-use Rattle.cv_model.specs.Layers.{GeometryLists}
+use Rattle.cv_model.specs.Geometries.{GeometryLists}
 use Rattle.cv_model.specs.declared.geometry.WktError.{WktError}
 use Rattle.cv_reading.specs.Tokens.{Token}
 use Rattle.cv_reading.specs.Watches.{Watch, Stop, StopAt, watched}

@@ -9,7 +9,7 @@
 
 ghost use Rattle.std.specs.Prelude.{◌≡◌, ◌≢◌, ◌↔◌, ◌≤◌, ◌<◌, ◌^◌, IfSome, IfOk, Ok, Err, List, ℤ};
 ghost use Rattle.cv_model.specs.Positions.{Position, IsCoordinate};
-ghost use Rattle.cv_model.specs.Layers.{GeometryLists};
+ghost use Rattle.cv_model.specs.Geometries.{GeometryLists};
 ghost use Rattle.cv_wkt.specs.Leftmost.{IsGeometry, IsRefusal};
 ghost use Rattle.cv_wkt.specs.Refusals.{geometry_of};
 ghost use Rattle.cv_wkt.specs.PlainForm.{IsPlainNumber, IsPlainPolygon, points_of};
