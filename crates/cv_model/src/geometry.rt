@@ -1,6 +1,7 @@
 //! Geometries, and why a text is none.
 
-ghost use Rattle.std.specs.Prelude.{◌≡◌};
+ghost use Rattle.std.specs.Prelude.{◌≡◌, length, sum_by};
+ghost use Rattle.cv_model.specs.Geometries.{points_of, vertices_of, counted};
 
 use crate::point::{Point, Polygon};
 use crate::sequence::Sequence;
@@ -61,6 +62,40 @@ impl Geometry {
     {
         self.polygons.as_slice()
     }
+
+    /// How many vertices all parts have together. The count stops at 2^64-1.
+    pub fn vertices(&self) -> u64
+        ensures { result ≡ counted (vertices_of self.now) }
+    {
+        let in_lines = points_in(self.lines());
+        let in_polygons = points_in_rings(self.polygons());
+        self.points
+            .len()
+            .saturating_add(in_lines)
+            .saturating_add(in_polygons)
+    }
+}
+
+/// How many points these lines or rings have together, up to 2^64-1.
+fn points_in(lines: &[Line]) -> u64
+    ensures { result ≡ counted (sum_by length lines.now) }
+{
+    let mut points: u64 = 0;
+    for line in lines {
+        points = points.saturating_add(line.len());
+    }
+    points
+}
+
+/// How many points these polygons have together, up to 2^64-1.
+fn points_in_rings(polygons: &[Polygon]) -> u64
+    ensures { result ≡ counted (sum_by points_of polygons.now) }
+{
+    let mut points: u64 = 0;
+    for polygon in polygons {
+        points = points.saturating_add(points_in(polygon.as_slice()));
+    }
+    points
 }
 
 /// Why a text is no geometry. Offsets are those of a token's first byte.
