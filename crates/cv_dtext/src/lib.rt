@@ -11,6 +11,7 @@ ghost use Rattle.cv_dtext.specs.Refusals.{features_of};
 
 mod cell;
 pub mod options;
+mod records;
 
 use cv_model::FeatureList;
 pub use options::{TextError, TextOptions};

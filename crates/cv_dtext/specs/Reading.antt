@@ -1,0 +1,55 @@
+-- What the parts of the code say to each other: a reader between two records, one read, and what was gathered so far.
+-- The clauses of private functions cite it; public ones cite the answer to the whole text alone.
+use Rattle.std.specs.Prelude.{◌≡◌, ◌≢◌, ℕ, ◌+◌, false, List, [], length, Option, Some, None, IfSome, Result, Ok, Err}
+use Rattle.csv.specs.Machine.{Read, next_record}
+use Rattle.csv.specs.Reading.{Ready, source_of, records_from}
+use Rattle.csv.specs.Records.{Row, fields_of}
+use Rattle.csv.specs.declared.parser.State.{State}
+use Rattle.csv.specs.declared.reader.Reader.{Reader}
+use Rattle.csv.specs.declared.reader.Trim.TheVariants as trim
+use Rattle.cv_model.specs.declared.delimiter.Delimiter.{Delimiter}
+use Rattle.cv_dtext.specs.declared.options.TextError.{TextError}
+use Rattle.cv_dtext.specs.declared.options.TextError.TheVariants.{NoHeader, NoGeometryColumn, Uneven, NotUtf8, TooMany, NoMemory}
+use Rattle.cv_dtext.specs.Records.{Fields, config_of}
+
+-- a reader that stands behind some records: the state of its machine, the bytes that are left, and how many fields the
+-- next record must have
+pub record Stands {R : Type 0} (rem : R → Option (List ℕ)) (d : Delimiter) (reader : Reader R) (s : State) (left : List ℕ) (width : Option ℕ) : Type 0 where
+  pub plain : reader.trim ≡ trim.None
+  pub ready : Ready reader
+  pub config : reader.config ≡ config_of d
+  pub strict : reader.flexible ≡ false
+  pub state : reader.state ≡ s
+  pub expects : reader.expected ≡ width
+  pub source : source_of rem reader ≡ Some left
+
+-- a record was read, of as many fields as it must have
+pub record Took {R : Type 0} (rem : R → Option (List ℕ)) (d : Delimiter) (s : State) (left : List ℕ) (width : Option ℕ) (reader : Reader R) (fields : Fields) : Type 0 where
+  pub read : Read
+  pub next : next_record (config_of d) s [] [] left ≡ Some read
+  pub fields_are : fields ≡ read.0
+  pub even : IfSome width (λ n. length read.0 ≡ n)
+  pub stands : Stands rem d reader read.1 read.2 (Some (length read.0))
+
+-- the next record has another number of fields than it must have
+pub record IsUneven (d : Delimiter) (s : State) (left : List ℕ) (width : Option ℕ) : Type 0 where
+  pub read : Read
+  pub next : next_record (config_of d) s [] [] left ≡ Some read
+  pub expected : ℕ
+  pub expects : width ≡ Some expected
+  pub other : length read.0 ≢ expected
+
+-- what a read answers before record n
+abbrev pub IsNext : {R : Type 0} → (R → Option (List ℕ)) → Delimiter → State → List ℕ → Option ℕ → ℕ → Reader R → Result (Option Row) TextError → Type 0
+IsNext rem d s left width n reader (Ok None) = next_record (config_of d) s [] [] left ≡ None
+IsNext rem d s left width n reader (Ok (Some row)) = Took rem d s left width reader (fields_of row)
+IsNext rem d s left width n reader (Err (Uneven row)) = (row ≡ n) × IsUneven d s left width
+IsNext rem d s left width n reader (Err NoMemory) = Unit {0}
+IsNext rem d s left width n reader (Err NoHeader) = ⊥
+IsNext rem d s left width n reader (Err NoGeometryColumn) = ⊥
+IsNext rem d s left width n reader (Err (NotUtf8 row)) = ⊥
+IsNext rem d s left width n reader (Err TooMany) = ⊥
+
+-- the records that are left
+unfoldable pub left_records : Delimiter → State → List ℕ → List Fields
+left_records d s left = records_from (config_of d) (length left + 1) s left

@@ -1,0 +1,31 @@
+//! One record after the other.
+
+ghost use Rattle.std.specs.Prelude.{Option, List, ℕ, Some};
+ghost use Rattle.csv.specs.declared.parser.State.{State};
+ghost use Rattle.cv_model.specs.declared.delimiter.Delimiter.{Delimiter};
+ghost use Rattle.cv_dtext.specs.Reading.{Stands, IsNext};
+
+use crate::options::TextError;
+use csv::{ByteRecord, ErrorKind, Reader};
+use std::alloc::Global;
+
+/// The next record, if there is one; it is counted by this number.
+pub fn next_row(
+    alloc: Global,
+    reader: &mut Reader<&[u8]>,
+    number: u32,
+) -> Result<Option<ByteRecord>, TextError>
+    ensures { (d : Delimiter) (s : State) (left : List ℕ) (width : Option ℕ)
+        → Stands (λ r. Some r.now) d reader.old s left width
+        → IsNext (λ r. Some r.now) d s left width number reader.new result }
+{
+    let mut row = ByteRecord::new(alloc);
+    match reader.read_byte_record(&mut row) {
+        Ok(true) => Ok(Some(row)),
+        Ok(false) => Ok(None),
+        Err(error) => match error.into_kind() {
+            ErrorKind::UnequalLengths { .. } => Err(TextError::Uneven(number)),
+            _ => Err(TextError::NoMemory),
+        },
+    }
+}
