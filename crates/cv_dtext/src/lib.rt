@@ -10,6 +10,7 @@ ghost use Rattle.std.specs.Prelude.{◌≡◌, ◌≢◌, ◌≤◌, length, Err
 ghost use Rattle.cv_dtext.specs.Refusals.{features_of};
 
 mod cell;
+mod fields;
 pub mod options;
 mod records;
 

@@ -1,0 +1,2 @@
+-- Lemmas on the records and fields of a delimited text.
+pub mod FieldLemmas
