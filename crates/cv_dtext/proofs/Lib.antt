@@ -1,2 +1,3 @@
 -- Lemmas on the records and fields of a delimited text.
 pub mod FieldLemmas
+pub mod RecordLemmas

@@ -1,6 +1,7 @@
 -- What the parts of the code say to each other: a reader between two records, one read, and what was gathered so far.
 -- The clauses of private functions cite it; public ones cite the answer to the whole text alone.
-use Rattle.std.specs.Prelude.{◌≡◌, ◌≢◌, ℕ, ◌+◌, false, List, [], length, Option, Some, None, IfSome, Result, Ok, Err}
+use Rattle.std.specs.Prelude.{◌≡◌, ◌≢◌, ℕ, ◌+◌, Bool, true, false, List, [], ◌∷◌, ◌++◌, length, Option, Some, None, IfSome, Result, Ok, Err}
+use Rattle.std.specs.Option.{option_to_list}
 use Rattle.csv.specs.Machine.{Read, next_record}
 use Rattle.csv.specs.Reading.{Ready, source_of, records_from}
 use Rattle.csv.specs.Records.{Row, fields_of}
@@ -8,9 +9,14 @@ use Rattle.csv.specs.declared.parser.State.{State}
 use Rattle.csv.specs.declared.reader.Reader.{Reader}
 use Rattle.csv.specs.declared.reader.Trim.TheVariants as trim
 use Rattle.cv_model.specs.declared.delimiter.Delimiter.{Delimiter}
+use Rattle.cv_model.specs.declared.feature.Room.{Room}
 use Rattle.cv_dtext.specs.declared.options.TextError.{TextError}
 use Rattle.cv_dtext.specs.declared.options.TextError.TheVariants.{NoHeader, NoGeometryColumn, Uneven, NotUtf8, TooMany, NoMemory}
+use Rattle.cv_dtext.specs.declared.gathered.Gathered.{Gathered}
 use Rattle.cv_dtext.specs.Records.{Fields, config_of}
+use Rattle.cv_dtext.specs.Cells.{note_on, vertices_in}
+use Rattle.cv_dtext.specs.Tables.{cell_at, others, feature_of, features_from, notes_from}
+use Rattle.cv_dtext.specs.Refusals.{is_past, vertices_in_all, values_in_all}
 
 -- a reader that stands behind some records: the state of its machine, the bytes that are left, and how many fields the
 -- next record must have
@@ -53,3 +59,36 @@ IsNext rem d s left width n reader (Err TooMany) = ⊥
 -- the records that are left
 unfoldable pub left_records : Delimiter → State → List ℕ → List Fields
 left_records d s left = records_from (config_of d) (length left + 1) s left
+
+-- what is gathered of the records behind a header
+abbrev pub gathered_of : ℕ → List Fields → Gathered
+gathered_of place rows = record {
+  features = features_from place 1 rows;
+  notes = notes_from place 1 rows;
+  counts = record { vertices = vertices_in_all place rows; values = values_in_all place rows };
+}
+
+-- what is gathered with record n
+abbrev pub with_record : ℕ → ℕ → Fields → Gathered → Gathered
+with_record place n fields g = record {
+  features = g.features ++ feature_of place n fields ∷ [];
+  notes = g.notes ++ option_to_list (note_on n (cell_at place fields));
+  counts = record {
+    vertices = g.counts.vertices + vertices_in (cell_at place fields);
+    values = g.counts.values + length (others place fields);
+  };
+}
+
+-- so much of n records is more than there is room for
+abbrev pub is_full : Room → ℕ → Gathered → Bool
+is_full room n g = is_past room n g.counts.vertices g.counts.values
+
+-- what adding record n answers, and what it leaves, where with it all would be `more`
+abbrev pub IsAdded : Room → ℕ → Gathered → Gathered → Result (Unit {0}) TextError → Type 0
+IsAdded room n more new (Ok done) = (new ≡ more) × (is_full room n more ≡ false)
+IsAdded room n more new (Err TooMany) = is_full room n more ≡ true
+IsAdded room n more new (Err NoMemory) = Unit {0}
+IsAdded room n more new (Err NoHeader) = ⊥
+IsAdded room n more new (Err NoGeometryColumn) = ⊥
+IsAdded room n more new (Err (Uneven row)) = ⊥
+IsAdded room n more new (Err (NotUtf8 row)) = ⊥

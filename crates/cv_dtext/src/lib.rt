@@ -10,7 +10,9 @@ ghost use Rattle.std.specs.Prelude.{◌≡◌, ◌≢◌, ◌≤◌, length, Err
 ghost use Rattle.cv_dtext.specs.Refusals.{features_of};
 
 mod cell;
+mod counts;
 mod fields;
+mod gathered;
 pub mod options;
 mod records;
 
