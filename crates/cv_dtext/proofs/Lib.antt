@@ -1,3 +1,4 @@
 -- Lemmas on the records and fields of a delimited text.
 pub mod FieldLemmas
 pub mod RecordLemmas
+pub mod ReadLemmas

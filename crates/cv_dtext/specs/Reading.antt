@@ -1,8 +1,8 @@
 -- What the parts of the code say to each other: a reader between two records, one read, and what was gathered so far.
 -- The clauses of private functions cite it; public ones cite the answer to the whole text alone.
-use Rattle.std.specs.Prelude.{◌≡◌, ◌≢◌, ℕ, ◌+◌, Bool, true, false, List, [], ◌∷◌, ◌++◌, length, Option, Some, None, IfSome, Result, Ok, Err}
-use Rattle.std.specs.Option.{option_to_list}
-use Rattle.csv.specs.Machine.{Read, next_record}
+use Rattle.std.specs.Prelude.{◌≡◌, ◌≢◌, ℕ, ◌+◌, Bool, true, false, List, [], ◌∷◌, ◌++◌, length, ◌<◌, Option, Some, None, IfSome, Result, Ok, Err}
+use Rattle.std.specs.Option.{option_to_list, unwrap_or}
+use Rattle.csv.specs.Machine.{Read, ends_at_end, next_record}
 use Rattle.csv.specs.Reading.{Ready, source_of, records_from}
 use Rattle.csv.specs.Records.{Row, fields_of}
 use Rattle.csv.specs.declared.parser.State.{State}
@@ -16,7 +16,7 @@ use Rattle.cv_dtext.specs.declared.gathered.Gathered.{Gathered}
 use Rattle.cv_dtext.specs.Records.{Fields, config_of}
 use Rattle.cv_dtext.specs.Cells.{note_on, vertices_in}
 use Rattle.cv_dtext.specs.Tables.{cell_at, others, feature_of, features_from, notes_from}
-use Rattle.cv_dtext.specs.Refusals.{is_past, vertices_in_all, values_in_all}
+use Rattle.cv_dtext.specs.Refusals.{are_texts, is_past, vertices_in_all, values_in_all}
 
 -- a reader that stands behind some records: the state of its machine, the bytes that are left, and how many fields the
 -- next record must have
@@ -56,9 +56,57 @@ IsNext rem d s left width n reader (Err NoGeometryColumn) = ⊥
 IsNext rem d s left width n reader (Err (NotUtf8 row)) = ⊥
 IsNext rem d s left width n reader (Err TooMany) = ⊥
 
--- the records that are left
+-- the records that are left of a text
 unfoldable pub left_records : Delimiter → State → List ℕ → List Fields
 left_records d s left = records_from (config_of d) (length left + 1) s left
+
+-- the bytes and the records that a reader has left
+abbrev pub unread : {R : Type 0} → (R → Option (List ℕ)) → Reader R → List ℕ
+unread rem reader = unwrap_or (source_of rem reader) []
+
+abbrev pub rows_left : {R : Type 0} → (R → Option (List ℕ)) → Delimiter → Reader R → List Fields
+rows_left rem d reader = left_records d reader.state (unread rem reader)
+
+-- a reader between two records
+pub record IsBetween {R : Type 0} (rem : R → Option (List ℕ)) (d : Delimiter) (reader : Reader R) : Type 0 where
+  pub stands : Stands rem d reader reader.state (unread rem reader) reader.expected
+  pub between : ends_at_end reader.state ≡ false
+
+-- a record of texts was read, of as many fields as it must have
+pub record Gave {R : Type 0} (rem : R → Option (List ℕ)) (d : Delimiter) (old new : Reader R) (fields : Fields) : Type 0 where
+  pub first : rows_left rem d old ≡ fields ∷ rows_left rem d new
+  pub even : IfSome old.expected (λ n. length fields ≡ n)
+  pub expects : new.expected ≡ Some (length fields)
+  pub fewer : length (unread rem new) < length (unread rem old)
+  pub behind : IsBetween rem d new
+
+-- the next record has another number of fields than it must have
+pub record FirstIsUneven {R : Type 0} (rem : R → Option (List ℕ)) (d : Delimiter) (old : Reader R) : Type 0 where
+  pub fields : Fields
+  pub rest : List Fields
+  pub first : rows_left rem d old ≡ fields ∷ rest
+  pub expected : ℕ
+  pub expects : old.expected ≡ Some expected
+  pub other : length fields ≢ expected
+
+-- it has as many, but one is no text
+pub record FirstIsNoText {R : Type 0} (rem : R → Option (List ℕ)) (d : Delimiter) (old : Reader R) : Type 0 where
+  pub fields : Fields
+  pub rest : List Fields
+  pub first : rows_left rem d old ≡ fields ∷ rest
+  pub even : IfSome old.expected (λ n. length fields ≡ n)
+  pub no_text : are_texts fields ≡ false
+
+-- what a read of texts answers before record n
+abbrev pub IsNextTexts : {R : Type 0} → (R → Option (List ℕ)) → Delimiter → ℕ → Reader R → Reader R → Result (Option Row) TextError → Type 0
+IsNextTexts rem d n old new (Ok None) = rows_left rem d old ≡ []
+IsNextTexts rem d n old new (Ok (Some row)) = Gave rem d old new (fields_of row) × (are_texts (fields_of row) ≡ true)
+IsNextTexts rem d n old new (Err (Uneven row)) = (row ≡ n) × FirstIsUneven rem d old
+IsNextTexts rem d n old new (Err (NotUtf8 row)) = (row ≡ n) × FirstIsNoText rem d old
+IsNextTexts rem d n old new (Err NoMemory) = Unit {0}
+IsNextTexts rem d n old new (Err NoHeader) = ⊥
+IsNextTexts rem d n old new (Err NoGeometryColumn) = ⊥
+IsNextTexts rem d n old new (Err TooMany) = ⊥
 
 -- what is gathered of the records behind a header
 abbrev pub gathered_of : ℕ → List Fields → Gathered

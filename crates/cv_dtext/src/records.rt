@@ -3,14 +3,14 @@
 ghost use Rattle.std.specs.Prelude.{Option, List, ℕ, Some};
 ghost use Rattle.csv.specs.declared.parser.State.{State};
 ghost use Rattle.cv_model.specs.declared.delimiter.Delimiter.{Delimiter};
-ghost use Rattle.cv_dtext.specs.Reading.{Stands, IsNext};
+ghost use Rattle.cv_dtext.specs.Reading.{Stands, IsNext, IsBetween, IsNextTexts};
 
 use crate::options::TextError;
-use csv::{ByteRecord, ErrorKind, Reader};
+use csv::{ByteRecord, ErrorKind, Reader, StringRecord};
 use std::alloc::Global;
 
 /// The next record, if there is one; it is counted by this number.
-pub fn next_row(
+fn next_row(
     alloc: Global,
     reader: &mut Reader<&[u8]>,
     number: u32,
@@ -27,5 +27,27 @@ pub fn next_row(
             ErrorKind::UnequalLengths { .. } => Err(TextError::Uneven(number)),
             _ => Err(TextError::NoMemory),
         },
+    }
+}
+
+/// The next record of texts, if there is a record; it is counted by this number.
+pub fn next_texts(
+    alloc: Global,
+    reader: &mut Reader<&[u8]>,
+    number: u32,
+) -> Result<Option<StringRecord>, TextError>
+    ensures { (d : Delimiter) → IsBetween (λ r. Some r.now) d reader.old
+        → IsNextTexts (λ r. Some r.now) d number reader.old reader.new result }
+{
+    let next = match next_row(alloc, reader, number) {
+        Ok(next) => next,
+        Err(refusal) => return Err(refusal),
+    };
+    let Some(row) = next else {
+        return Ok(None);
+    };
+    match StringRecord::from_byte_record(row) {
+        Ok(texts) => Ok(Some(texts)),
+        Err(_) => Err(TextError::NotUtf8(number)),
     }
 }
