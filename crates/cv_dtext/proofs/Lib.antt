@@ -2,3 +2,5 @@
 pub mod FieldLemmas
 pub mod RecordLemmas
 pub mod ReadLemmas
+pub mod TableLemmas
+pub mod AnswerLemmas

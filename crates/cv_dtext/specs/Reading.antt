@@ -1,6 +1,6 @@
 -- What the parts of the code say to each other: a reader between two records, one read, and what was gathered so far.
 -- The clauses of private functions cite it; public ones cite the answer to the whole text alone.
-use Rattle.std.specs.Prelude.{◌≡◌, ◌≢◌, ℕ, ◌+◌, Bool, true, false, List, [], ◌∷◌, ◌++◌, length, ◌<◌, Option, Some, None, IfSome, Result, Ok, Err}
+use Rattle.std.specs.Prelude.{◌≡◌, ◌≢◌, ℕ, ◌+◌, Bool, true, false, List, [], ◌∷◌, ◌++◌, length, ◌<◌, ◌≤◌, All, Option, Some, None, IfSome, Result, Ok, Err}
 use Rattle.std.specs.Option.{option_to_list, unwrap_or}
 use Rattle.csv.specs.Machine.{Read, ends_at_end, next_record}
 use Rattle.csv.specs.Reading.{Ready, source_of, records_from}
@@ -10,13 +10,14 @@ use Rattle.csv.specs.declared.reader.Reader.{Reader}
 use Rattle.csv.specs.declared.reader.Trim.TheVariants as trim
 use Rattle.cv_model.specs.declared.delimiter.Delimiter.{Delimiter}
 use Rattle.cv_model.specs.declared.feature.Room.{Room}
+use Rattle.cv_model.specs.Features.{FeatureTable}
 use Rattle.cv_dtext.specs.declared.options.TextError.{TextError}
 use Rattle.cv_dtext.specs.declared.options.TextError.TheVariants.{NoHeader, NoGeometryColumn, Uneven, NotUtf8, TooMany, NoMemory}
 use Rattle.cv_dtext.specs.declared.gathered.Gathered.{Gathered}
 use Rattle.cv_dtext.specs.Records.{Fields, config_of}
 use Rattle.cv_dtext.specs.Cells.{note_on, vertices_in}
 use Rattle.cv_dtext.specs.Tables.{cell_at, others, feature_of, features_from, notes_from}
-use Rattle.cv_dtext.specs.Refusals.{are_texts, is_past, vertices_in_all, values_in_all}
+use Rattle.cv_dtext.specs.Refusals.{are_texts, is_past, vertices_in_all, values_in_all, answer_behind}
 
 -- a reader that stands behind some records: the state of its machine, the bytes that are left, and how many fields the
 -- next record must have
@@ -140,3 +141,19 @@ IsAdded room n more new (Err NoHeader) = ⊥
 IsAdded room n more new (Err NoGeometryColumn) = ⊥
 IsAdded room n more new (Err (Uneven row)) = ⊥
 IsAdded room n more new (Err (NotUtf8 row)) = ⊥
+
+-- the columns of a header, with what was gathered behind it
+abbrev pub tabled : ℕ → Fields → Gathered → FeatureTable
+tabled place header g = record { columns = others place header; features = g.features; notes = g.notes }
+
+-- the loop over the records, before record n: what was gathered is that of the records before it, and the records that
+-- are left decide what is answered
+pub record Along {R : Type 0} (rem : R → Option (List ℕ)) (d : Delimiter) (room : Room) (place : ℕ) (header : Fields) (start now : Reader R) (g : Gathered) (n : ℕ) : Type 0 where
+  pub before : List Fields
+  pub gathered : g ≡ gathered_of place before
+  pub number : n ≡ length before + 1
+  pub each : All (λ fields. length fields ≡ length header) before
+  pub expects : now.expected ≡ Some (length header)
+  pub behind : IsBetween rem d now
+  pub short : length (unread rem now) + n ≤ length (unread rem start) + 1
+  pub same : answer_behind room place header [] (rows_left rem d start) ≡ answer_behind room place header before (rows_left rem d now)
