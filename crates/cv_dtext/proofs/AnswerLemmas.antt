@@ -87,7 +87,7 @@ stopped rem d room place header start now new g n (NotUtf8 row) a h more =
     let t = h.1 in
     a.same ∙ ap (answer_behind room place header a.before) t.first
     ∙ answer_stops room place header a.before t.fields t.rest _
-      (shown_no_text room place (length header) a.before t.fields (even_with now.expected (length t.fields) (length header) a.expects t.even) t.no_text)
+    (shown_no_text room place (length header) a.before t.fields (even_with now.expected (length t.fields) (length header) a.expects t.even) t.no_text)
     ∙ ap (λ (k : ℕ). Err (NotUtf8 k)) (sym (h.0 ∙ a.number))
 stopped rem d room place header start now new g n NoMemory a h more = absurd (more refl)
 stopped rem d room place header start now new g n NoHeader a h more = absurd h
@@ -99,9 +99,10 @@ pub ended : {R : Type 0} (rem : R → Option (List ℕ)) (d : Delimiter) (room :
     → place < length header → Along rem d room place header start now g n → IsNextTexts rem d n now new (Ok None)
     → (answer_behind room place header [] (rows_left rem d start) ≡ Ok (tabled place header g)) × IsFeatureTable (tabled place header g)
 ended rem d room place header start now new g n within a h =
-    let same : table_of place header a.before ≡ tabled place header g = ap (tabled place header) (sym a.gathered) in
-    (a.same ∙ ap (answer_behind room place header a.before) h ∙ answer_end room place header a.before ∙ ap Ok same
-    , subst IsFeatureTable same (is_table place header a.before within a.each))
+    let same : table_of place header a.before ≡ tabled place header g = ap (tabled place header) (sym a.gathered) in (
+      a.same ∙ ap (answer_behind room place header a.before) h ∙ answer_end room place header a.before ∙ ap Ok same,
+      subst IsFeatureTable same (is_table place header a.before within a.each),
+    )
 
 -- what is gathered with one record more
 with_more : (place : ℕ) (before : List Fields) (fields : Fields) (g : Gathered) (n : ℕ) → g ≡ gathered_of place before → n ≡ length before + 1
@@ -124,8 +125,8 @@ pub overfull : {R : Type 0} (rem : R → Option (List ℕ)) (d : Delimiter) (roo
 overfull rem d room place header start now new g left n fields TooMany a gave texts h more =
     a.same ∙ ap (answer_behind room place header a.before) gave.first
     ∙ answer_stops room place header a.before fields _ TooMany
-      (shown_by_room room place (length header) a.before fields true (even_with now.expected (length fields) (length header) a.expects gave.even) texts
-      (sym (full_alike room place a.before fields g n a.gathered a.number) ∙ h))
+    (shown_by_room room place (length header) a.before fields true (even_with now.expected (length fields) (length header) a.expects gave.even) texts
+    (sym (full_alike room place a.before fields g n a.gathered a.number) ∙ h))
 overfull rem d room place header start now new g left n fields NoMemory a gave texts h more = absurd (more refl)
 overfull rem d room place header start now new g left n fields NoHeader a gave texts h more = absurd h
 overfull rem d room place header start now new g left n fields NoGeometryColumn a gave texts h more = absurd h
@@ -154,6 +155,33 @@ added rem d room place header start now new g more n fields a gave texts em room
       behind = gave.behind;
       short = omega arith;
       same = a.same ∙ ap (answer_behind room place header a.before) gave.first
-        ∙ answer_goes room place header a.before fields _ (shown_by_room room place (length header) a.before fields false even texts
+          ∙ answer_goes room place header a.before fields _ (shown_by_room room place (length header) a.before fields false even texts
           (sym (full_alike room place a.before fields g n a.gathered a.number) ∙ room_left));
     }
+
+-- ---- what a read gave
+
+pub none_given : {R : Type 0} (rem : R → Option (List ℕ)) (d : Delimiter) (n : ℕ) (old new : Reader R) (o : Option Row)
+    → o ≡ None → IsNextTexts rem d n old new (Ok o) → IsNextTexts rem d n old new (Ok None)
+none_given rem d n old new None e h = h
+none_given rem d n old new (Some row) e h = absurd cc
+
+pub row_given : {R : Type 0} (rem : R → Option (List ℕ)) (d : Delimiter) (n : ℕ) (old new : Reader R) (o : Option Row) (row : Row)
+    → o ≡ Some row → IsNextTexts rem d n old new (Ok o) → Gave rem d old new (fields_of row) × (are_texts (fields_of row) ≡ true)
+row_given rem d n old new None row e h = absurd cc
+row_given rem d n old new (Some found) row e h =
+    let same : found ≡ row = cc in subst (λ (r : Row). Gave rem d old new (fields_of r) × (are_texts (fields_of r) ≡ true)) same h
+
+-- before the first record behind a header
+pub begun : {R : Type 0} (rem : R → Option (List ℕ)) (d : Delimiter) (room : Room) (place : ℕ) (header : Fields) (start : Reader R) (g : Gathered)
+    → IsBetween rem d start → start.expected ≡ Some (length header) → g ≡ gathered_of place [] → Along rem d room place header start start g 1
+begun rem d room place header start g between expects e = record {
+  before = [];
+  gathered = e;
+  number = refl;
+  each = λ k d h. absurd (omega arith);
+  expects = expects;
+  behind = between;
+  short = omega arith;
+  same = refl;
+}

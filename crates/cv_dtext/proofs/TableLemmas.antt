@@ -42,9 +42,9 @@ gathered_more place rows fields =
     let features = features_more place 1 rows fields ∙ ap (λ k. features_from place 1 rows ++ feature_of place k fields ∷ []) e in
     let notes = notes_more place 1 rows fields ∙ ap (λ k. notes_from place 1 rows ++ option_to_list (note_on k (cell_at place fields))) e in
     let vertices : vertices_in_all place (rows ++ fields ∷ []) ≡ vertices_in_all place rows + vertices_in (cell_at place fields) =
-      let sum = sum_by-append (λ (f : Fields). vertices_in (cell_at place f)) rows (fields ∷ []) in omega arith in
+    let sum = sum_by-append (λ (f : Fields). vertices_in (cell_at place f)) rows (fields ∷ []) in omega arith in
     let values : values_in_all place (rows ++ fields ∷ []) ≡ values_in_all place rows + length (others place fields) =
-      let sum = sum_by-append (λ (f : Fields). length (others place f)) rows (fields ∷ []) in omega arith in
+    let sum = sum_by-append (λ (f : Fields). length (others place f)) rows (fields ∷ []) in omega arith in
     λ i. record {
       features = features i;
       notes = notes i;

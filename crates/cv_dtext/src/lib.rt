@@ -15,6 +15,7 @@ mod fields;
 mod gathered;
 pub mod options;
 mod records;
+mod rows;
 
 use cv_model::FeatureList;
 pub use options::{TextError, TextOptions};

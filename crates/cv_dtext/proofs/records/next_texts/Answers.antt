@@ -28,7 +28,7 @@ pub returns-in-Ok-from_byte_record : goal.returns-in-Ok-from_byte_record
 returns-in-Ok-from_byte_record c = λ d between.
     let old = c.args.reader.now in let new = c.next_row.new.reader in
     let found = one_found rem d c.args.number old new c.in-Ok.next c.in-Some.row c.in-Some.is between
-      (c.in-Ok.ensures d old.state (unread rem old) old.expected between.stands) in
+    (c.in-Ok.ensures d old.state (unread rem old) old.expected between.stands) in
     let texts = c.in-Ok-from_byte_record.ensures in
     (subst (λ (fields : Fields). Gave rem d old new fields) (sym texts.same) found, texts_pass _ texts.text)
 
@@ -36,5 +36,5 @@ pub returns : goal.returns
 returns c = λ d between.
     let old = c.args.reader.now in let new = c.next_row.new.reader in
     let found = one_found rem d c.args.number old new c.in-Ok.next c.in-Some.row c.in-Some.is between
-      (c.in-Ok.ensures d old.state (unread rem old) old.expected between.stands) in
+    (c.in-Ok.ensures d old.state (unread rem old) old.expected between.stands) in
     (refl, no_text rem d old new (fields_of c.in-Some.row) found (λ texts. false≢true (c.in-Err-from_byte_record.ensures.refused texts)))
