@@ -1,5 +1,5 @@
 -- The answer to the records that are left, at each turn of the loop over them.
-use Rattle.std.proofs.Common.{◌≡◌, ◌≢◌, ◌∙◌, ap, ap₂, sym, refl, subst, ℕ, zero, suc, ◌+◌, ◌-◌, ◌<◌, ◌≤◌, ◌==◌, Bool, true, false, not, if◌then◌else◌, List, [], ◌∷◌, ◌++◌, length, All, append_assoc, Option, Some, None, IfSome, Result, Ok, Err, arith}
+use Rattle.std.proofs.Common.{◌≡◌, ◌≢◌, ◌∙◌, ap, ap₂, sym, refl, subst, ℕ, zero, suc, ◌+◌, ◌<◌, ◌==◌, Bool, true, false, not, if◌then◌else◌, List, [], ◌∷◌, ◌++◌, length, All, append_assoc, Option, Some, None, IfSome, Ok, Err, arith}
 use Rattle.std.proofs.lemmas.Bool.Decides.{nat_tests}
 use Rattle.std.proofs.lemmas.List.{append-nil, length-append}
 use Rattle.std.proofs.lemmas.List.Elements.{All-append}
@@ -8,14 +8,14 @@ use Rattle.csv.specs.Records.{Row, fields_of}
 use Rattle.csv.specs.declared.reader.Reader.{Reader}
 use Rattle.cv_model.specs.declared.delimiter.Delimiter.{Delimiter}
 use Rattle.cv_model.specs.declared.feature.Room.{Room}
-use Rattle.cv_model.specs.Features.{FeatureTable, IsFeatureTable}
+use Rattle.cv_model.specs.Features.{IsFeatureTable}
 use Rattle.cv_dtext.specs.declared.options.TextError.{TextError}
 use Rattle.cv_dtext.specs.declared.options.TextError.TheVariants.{NoHeader, NoGeometryColumn, Uneven, NotUtf8, TooMany, NoMemory}
 use Rattle.cv_dtext.specs.declared.gathered.Gathered.{Gathered}
 use Rattle.cv_dtext.specs.Records.{Fields}
 use Rattle.cv_dtext.specs.Tables.{table_of}
-use Rattle.cv_dtext.specs.Refusals.{are_texts, is_past, vertices_in_all, values_in_all, pass, shown, first_shown, unless, answer_behind}
-use Rattle.cv_dtext.specs.Reading.{IsBetween, Gave, IsNextTexts, IsAdded, Along, unread, rows_left, gathered_of, with_record, is_full, tabled}
+use Rattle.cv_dtext.specs.Refusals.{are_texts, pass, shown, first_shown, unless, answer_behind}
+use Rattle.cv_dtext.specs.Reading.{IsBetween, Gave, IsNextTexts, IsAdded, Along, rows_left, gathered_of, with_record, is_full, tabled}
 use Rattle.cv_dtext.proofs.TableLemmas.{gathered_more, is_table}
 
 -- ---- what one record shows

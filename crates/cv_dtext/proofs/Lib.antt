@@ -4,3 +4,5 @@ pub mod RecordLemmas
 pub mod ReadLemmas
 pub mod TableLemmas
 pub mod AnswerLemmas
+pub mod OpeningLemmas
+pub mod FirstLemmas

@@ -1,12 +1,10 @@
 -- One read of a reader between two records.
-use Rattle.std.proofs.Common.{◌≡◌, ◌≢◌, ◌∙◌, ap, ap₂, sym, refl, subst, ℕ, ◌<◌, Bool, true, false, ◌&&◌, List, [], ◌∷◌, length, Option, Some, None, IfSome, IsOk, Result, Ok, Err}
+use Rattle.std.proofs.Common.{◌≡◌, ◌∙◌, ap, ap₂, sym, refl, subst, ℕ, ◌<◌, Bool, true, false, ◌&&◌, List, [], ◌∷◌, length, Option, Some, None, Ok, Err}
 use Rattle.std.proofs.lemmas.Bool.{false≢true}
-use Rattle.std.specs.List.{list_all}
 use Rattle.std.specs.Option.{unwrap_or}
 use Rattle.std.specs.Str.{is_utf8}
 use Rattle.std.proofs.lemmas.Str.{IsUtf8-from_is_utf8, is_utf8-from_IsUtf8}
 use Rattle.csv.specs.Machine.{ends_at_end, next_record}
-use Rattle.csv.specs.Reading.{source_of}
 use Rattle.csv.specs.Records.{AllText, Row, fields_of}
 use Rattle.csv.specs.declared.reader.Reader.{Reader}
 use Rattle.cv_model.specs.declared.delimiter.Delimiter.{Delimiter}
@@ -14,7 +12,7 @@ use Rattle.cv_dtext.specs.declared.options.TextError.{TextError}
 use Rattle.cv_dtext.specs.declared.options.TextError.TheVariants.{NoHeader, NoGeometryColumn, Uneven, NotUtf8, TooMany, NoMemory}
 use Rattle.cv_dtext.specs.Records.{Fields, config_of}
 use Rattle.cv_dtext.specs.Refusals.{are_texts}
-use Rattle.cv_dtext.specs.Reading.{Stands, Took, IsUneven, IsNext, IsNextTexts, IsBetween, Gave, FirstIsUneven, FirstIsNoText, unread, rows_left, left_records}
+use Rattle.cv_dtext.specs.Reading.{Took, IsUneven, IsNext, IsNextTexts, IsBetween, Gave, FirstIsUneven, FirstIsNoText, unread, rows_left, left_records}
 use Rattle.cv_dtext.proofs.RecordLemmas.{left_none, left_some, takes_byte, leaves}
 
 -- the record that was read is the first of those that were left

@@ -11,7 +11,7 @@ use Rattle.csv.specs.declared.parser.Terminator.TheVariants as term
 use Rattle.csv.specs.Machine.{Read, after_end, is_end, ends_at_end, in_field, start_field, start_record, step, fields_after, field_after, next_record}
 use Rattle.csv.specs.Reading.{records_from, records_next}
 use Rattle.cv_model.specs.declared.delimiter.Delimiter.{Delimiter}
-use Rattle.cv_dtext.specs.Records.{Fields, config_of}
+use Rattle.cv_dtext.specs.Records.{config_of}
 use Rattle.cv_dtext.specs.Reading.{left_records}
 
 -- a step that ends a record stops between two records

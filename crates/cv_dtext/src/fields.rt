@@ -1,6 +1,6 @@
 //! The fields of a record.
 
-ghost use Rattle.std.specs.Prelude.{◌≡◌, ◌++◌, ◌≤◌, ◌<◌, ◌-◌, [], length, take, drop, slice_index_or, bytes_eq, IfOk, OnOk};
+ghost use Rattle.std.specs.Prelude.{◌≡◌, ◌++◌, ◌≤◌, ◌<◌, ◌-◌, [], length, take, drop, slice_index_or, bytes_eq, IfOk, IfSome, OnOk};
 ghost use Rattle.csv.specs.Records.{fields_of};
 ghost use Rattle.cv_dtext.specs.Tables.{column_of, others};
 
@@ -29,7 +29,8 @@ fn is_named(row: &StringRecord, place: usize, name: &str) -> bool
 
 /// The place of the first field that is a name.
 pub fn column(header: &StringRecord, name: &str) -> Option<usize>
-    ensures { result ≡ column_of name.now (fields_of header.now) }
+    ensures first { result ≡ column_of name.now (fields_of header.now) }
+    ensures within { IfSome result (λ place. place < length (fields_of header.now)) }
 {
     for place in 0..header.len() {
         if is_named(header, place, name) {

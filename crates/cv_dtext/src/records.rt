@@ -1,13 +1,38 @@
 //! One record after the other.
 
-ghost use Rattle.std.specs.Prelude.{Option, List, ℕ, Some};
+ghost use Rattle.std.specs.Prelude.{◌≡◌, ◌≤◌, Option, List, ℕ, Some, None, length};
 ghost use Rattle.csv.specs.declared.parser.State.{State};
 ghost use Rattle.cv_model.specs.declared.delimiter.Delimiter.{Delimiter};
-ghost use Rattle.cv_dtext.specs.Reading.{Stands, IsNext, IsBetween, IsNextTexts};
+ghost use Rattle.cv_dtext.specs.Records.{delimiter_byte, records_of};
+ghost use Rattle.cv_dtext.specs.Reading.{Stands, IsNext, IsBetween, IsNextTexts, rows_left, unread};
 
 use crate::options::TextError;
-use csv::{ByteRecord, ErrorKind, Reader, StringRecord};
+use csv::{ByteRecord, ErrorKind, Reader, ReaderBuilder, StringRecord};
+use cv_model::Delimiter;
 use std::alloc::Global;
+
+fn delimiter_byte(delimiter: Delimiter) -> u8
+    ensures { result ≡ delimiter_byte delimiter }
+{
+    match delimiter {
+        Delimiter::Comma => b',',
+        Delimiter::Semicolon => b';',
+        Delimiter::Tab => b'\t',
+    }
+}
+
+/// A reader of the records of these bytes, without one that is a header of its own.
+pub fn records(alloc: Global, bytes: &[u8], delimiter: Delimiter) -> Reader<&[u8]>
+    ensures between { IsBetween (λ r. Some r.now) delimiter result }
+    ensures first { result.expected ≡ None }
+    ensures all { rows_left (λ r. Some r.now) delimiter result ≡ records_of delimiter bytes.now }
+    ensures short { length (unread (λ r. Some r.now) result) ≤ length bytes.now }
+{
+    ReaderBuilder::new()
+        .delimiter(delimiter_byte(delimiter))
+        .has_headers(false)
+        .from_reader(alloc, bytes)
+}
 
 /// The next record, if there is one; it is counted by this number.
 fn next_row(

@@ -1,10 +1,8 @@
 -- A read of bytes, and the test that they are texts.
-use Rattle.std.proofs.Common.{◌≡◌, ◌∙◌, ap, List, ℕ, Option, Some, true, Bor, sym, subst, refl}
+use Rattle.std.proofs.Common.{List, ℕ, Option, Some, Bor, sym, subst, refl}
 use Rattle.std.proofs.lemmas.Bool.{false≢true}
 use Rattle.csv.specs.Records.{fields_of}
-use Rattle.cv_model.specs.declared.delimiter.Delimiter.{Delimiter}
 use Rattle.cv_dtext.specs.Records.{Fields}
-use Rattle.cv_dtext.specs.Refusals.{are_texts}
 use Rattle.cv_dtext.specs.Reading.{unread, Gave}
 use Rattle.cv_dtext.proofs.ReadLemmas.{none_found, one_found, no_text, texts_pass, refused_alike}
 use Rattle.cv_dtext.proofs.records.next_texts.Goals as goal
