@@ -44,3 +44,6 @@ pub fn read(alloc: Global, bytes: &[u8], options: &TextOptions) -> Result<Featur
 {
     table::read_table(alloc, bytes, options)
 }
+
+#[cfg(test)]
+mod tests;
