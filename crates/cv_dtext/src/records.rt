@@ -21,7 +21,7 @@ fn delimiter_byte(delimiter: Delimiter) -> u8
     }
 }
 
-/// A reader of the records of these bytes, without one that is a header of its own.
+/// A reader of the records of these bytes, the header among them.
 pub fn records(alloc: Global, bytes: &[u8], delimiter: Delimiter) -> Reader<&[u8]>
     ensures between { IsBetween (λ r. Some r.now) delimiter result }
     ensures first { result.expected ≡ None }
