@@ -1,15 +1,20 @@
-//! Painting by testing every polygon at every pixel centre.
+//! Painting by testing every feature at every pixel centre.
 
-ghost use Rattle.std.specs.Prelude.{◌≡◌, ◌<◌, ◌++◌, [], IfOk, OnOk, Some, map};
+ghost use Rattle.std.specs.Prelude.{◌≡◌, ◌<◌, ◌++◌, IfOk, OnOk};
 ghost use Rattle.std.specs.List.{flat_map};
-ghost use Rattle.cv_model.specs.Colours.{opaque, laid};
-ghost use Rattle.cv_model.specs.Layers.{polygon_feature, polygons_project};
+ghost use Rattle.cv_model.specs.declared.feature.Feature.{Feature};
+ghost use Rattle.cv_model.specs.Colours.{laid};
+ghost use Rattle.cv_model.specs.Symbols.{IsSymbol};
+ghost use Rattle.cv_model.specs.Layers.{features_project};
 ghost use Rattle.cv_model.specs.Pictures.{strokes, colour_at, picture};
 ghost use Rattle.cv_model.specs.Rasters.{row_of};
 
-use cv_blend::{merge, over};
-use cv_geom::{centre, inside};
-use cv_model::{Blend, NoMemory, Picture, Point2, Polygon, Rgb, RgbList, Rgba, Symbol, View};
+use crate::strokes::with_feature;
+use cv_blend::merge;
+use cv_geom::centre;
+use cv_model::{
+    Blend, Feature, FeatureList, NoMemory, Picture, Point2, Rgb, RgbList, Rgba, Symbol, View,
+};
 use std::alloc::Global;
 
 /// What lies below all layers.
@@ -27,39 +32,29 @@ const CLEAR: Rgba = Rgba {
     a: 0,
 };
 
-/// The colour that covers all below it.
-fn covering(colour: Rgb) -> Rgba
-    ensures { result ≡ opaque colour }
-{
-    Rgba {
-        r: colour.r,
-        g: colour.g,
-        b: colour.b,
-        a: 255,
-    }
-}
-
-/// The pixel of a layer of polygons at the centre `p`: the fill of each polygon that has it inside, in order.
-fn layer_pixel(polygons: &[Polygon], fill: Rgba, view: &View, p: Point2) -> Rgba
-    ensures { result ≡ laid (flat_map (strokes (record { fill = Some fill }) view.now p) (map polygon_feature polygons.now)) }
+/// The pixel of a layer at the centre `p`: the strokes of its features in order.
+#[tactic(auto, using(crate::proofs::Laying::laid_on_append))]
+fn layer_pixel(features: &[Feature], symbol: &Symbol, view: &View, p: Point2) -> Rgba
+    requires { IsSymbol symbol.now }
+    ensures { result ≡ laid (flat_map
+        (λ (feature : Feature). strokes symbol.now view.now p feature.geometry) features.now) }
 {
     let mut pixel = CLEAR;
-    for polygon in polygons {
-        if inside(polygon, p) {
-            pixel = over(fill, pixel);
-        }
+    for feature in features {
+        pixel = with_feature(pixel, feature, symbol, view, p);
     }
     pixel
 }
 
 /// The pixel of the picture: the layer's pixel on white.
 #[tactic(auto, unfolding(cv_model::specs::Pictures::colour_at, cv_model::specs::Pictures::pixel))]
-fn colour(polygons: &[Polygon], fill: Rgb, view: &View, i: u32, j: u32) -> Rgb
+fn colour(features: &[Feature], symbol: &Symbol, view: &View, i: u32, j: u32) -> Rgb
     requires column { i < view.now.w }
     requires row { j < view.now.h }
-    ensures { result ≡ colour_at (polygons_project polygons.now fill) view.now i j }
+    requires symbol { IsSymbol symbol.now }
+    ensures { result ≡ colour_at (features_project features.now symbol.now) view.now i j }
 {
-    let pixel = layer_pixel(polygons, covering(fill), view, centre(view, i, j));
+    let pixel = layer_pixel(features, symbol, view, centre(view, i, j));
     merge(WHITE, pixel, 255, Blend::Normal)
 }
 
@@ -67,36 +62,39 @@ fn colour(polygons: &[Polygon], fill: Rgb, view: &View, i: u32, j: u32) -> Rgb
 #[tactic(auto, using(cv_model::proofs::Rows::row_more))]
 fn paint_row(
     pixels: &mut RgbList,
-    polygons: &[Polygon],
-    fill: Rgb,
+    features: &[Feature],
+    symbol: &Symbol,
     view: &View,
     j: u32,
 ) -> Result<(), NoMemory>
-    requires { j < view.now.h }
+    requires row { j < view.now.h }
+    requires symbol { IsSymbol symbol.now }
     ensures { OnOk result (pixels.new ≡ pixels.old
-        ++ row_of view.now.w (colour_at (polygons_project polygons.now fill) view.now) j) }
+        ++ row_of view.now.w (colour_at (features_project features.now symbol.now) view.now) j) }
 {
     for i in 0..view.w {
-        pixels.put(colour(polygons, fill, view, i, j))?;
+        pixels.put(colour(features, symbol, view, i, j))?;
     }
     Ok(())
 }
 
-/// The picture of one layer of polygons with an opaque fill, over white: `view.w` by `view.h` pixels, rows from the top.
+/// The picture of one layer of features with a symbol, over white: `view.w` by `view.h` pixels, rows from the top.
 ///
-/// A pixel is filled where its centre is inside some polygon, by the parity of the edges that cross right of it.
+/// Each feature is tested at each pixel's centre. The symbol's pen is 1 to 64 pixels wide, and its marker 1 to 256.
 #[tactic(auto, using(cv_model::proofs::Rows::pixels_more, cv_model::proofs::Rows::length_pixels))]
 pub fn quick(
     alloc: Global,
-    polygons: &[Polygon],
-    fill: Rgb,
+    features: &FeatureList,
+    symbol: &Symbol,
     view: &View,
 ) -> Result<Picture, NoMemory>
-    ensures { IfOk result (λ made. made ≡ picture (polygons_project polygons.now fill) view.now) }
+    requires { IsSymbol symbol.now }
+    ensures { IfOk result (λ made. made
+        ≡ picture (features_project features.now.features symbol.now) view.now) }
 {
     let mut pixels = RgbList::with_room(alloc, u64::from(view.w) * u64::from(view.h))?;
     for j in 0..view.h {
-        paint_row(&mut pixels, polygons, fill, view, j)?;
+        paint_row(&mut pixels, features.features(), symbol, view, j)?;
     }
     Ok(Picture::of(view.w, view.h, pixels))
 }

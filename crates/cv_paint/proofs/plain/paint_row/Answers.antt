@@ -1,5 +1,5 @@
 use Rattle.std.proofs.Common.{◌++◌, ◌∷◌, [], ap, sym, ◌∙◌, append_assoc}
-use Rattle.cv_model.specs.Layers.{polygons_project}
+use Rattle.cv_model.specs.Layers.{features_project}
 use Rattle.cv_model.specs.Pictures.{colour_at}
 use Rattle.cv_model.specs.Rasters.{row_of}
 use Rattle.cv_model.proofs.Rows.{row_more}
@@ -8,7 +8,7 @@ use Rattle.cv_paint.proofs.plain.paint_row.Goals as goal
 -- the row goes on with the pixel that was pushed
 pub loop-i-preserved : goal.loop-i-preserved
 loop-i-preserved c =
-    let f = colour_at (polygons_project c.args.polygons.now c.args.fill) c.args.view.now in
+    let f = colour_at (features_project c.args.features.now c.args.symbol.now) c.args.view.now in
     let row = row_of c.loop-i.i f c.args.j in
     c.in_ok-put.ensures.ok ∙ ap (λ pixels. pixels ++ c.colour.result ∷ []) c.loop-i.invariant
     ∙ ap (λ pixel. (c.args.pixels.now ++ row) ++ pixel ∷ []) c.colour.ensures
