@@ -1,5 +1,3 @@
--- Lemmas on the words of a command and on the lines of a text in the plain form.
+-- Lemmas on the words of a command and on its ends.
 pub mod WordLemmas
-pub mod QuotedLemmas
-pub mod LineLemmas
 pub mod EndLemmas

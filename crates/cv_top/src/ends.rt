@@ -3,6 +3,8 @@
 ghost use Rattle.std.specs.Prelude.{◌≡◌};
 ghost use Rattle.cv_top.specs.Ends.{status_of};
 
+use cv_dtext::TextError;
+use std::fmt;
 use thiserror::Error;
 
 /// The file or the text that an end speaks of.
@@ -19,8 +21,32 @@ pub enum Which {
 /// Why the bytes of a layer were refused.
 #[derive(Clone, Copy, Debug, PartialEq, Eq)]
 pub enum DataError {
-    /// They are not in the plain form, which is all that is read so far.
-    NotBuilt,
+    /// They are no delimited text with a column of geometries, or have more in them than is read.
+    Text(TextError),
+    /// They are more bytes than are read.
+    TooLong,
+}
+
+impl fmt::Display for DataError {
+    fn fmt<W: fmt::Write>(&self, f: &mut fmt::Formatter<W>) -> fmt::Result {
+        match self {
+            DataError::Text(TextError::NoHeader) => write!(f, "there is no header"),
+            DataError::Text(TextError::NoGeometryColumn) => {
+                write!(f, "the header has no column of the geometry's name")
+            }
+            DataError::Text(TextError::Uneven(n)) => {
+                write!(f, "record {n} has another number of fields than the header")
+            }
+            DataError::Text(TextError::NotUtf8(n)) => {
+                write!(f, "record {n} has a field that is not UTF-8")
+            }
+            DataError::Text(TextError::TooMany) => {
+                write!(f, "more features, vertices or values than there is room for")
+            }
+            DataError::Text(TextError::NoMemory) => write!(f, "out of memory"),
+            DataError::TooLong => write!(f, "the file has more than 268435456 bytes"),
+        }
+    }
 }
 
 /// How a command ended. Its text is what a program writes on standard error.
@@ -36,7 +62,7 @@ pub enum End {
     #[error("usage")]
     Usage,
     /// The bytes of the layer at this place, from 0, were refused.
-    #[error("bad data in layer {0}")]
+    #[error("bad data in layer {0}: {1}")]
     BadData(u32, DataError),
     /// A read failed.
     #[error("read fault")]

@@ -2,8 +2,9 @@
 
 ghost use Rattle.std.specs.Prelude.{◌≡◌, ◌↔◌, ⊤, ℕ, List, None, IsTrue};
 ghost use Rattle.cv_outside.specs.Counts.{Rose};
+ghost use Rattle.cv_top.specs.declared.ends.DataError.{DataError};
 ghost use Rattle.cv_top.specs.Words.{QuickOrder, IsQuick, IsNoForm};
-ghost use Rattle.cv_top.specs.Runs.{IsInForm, IsNotInForm, IsPictureOf, image_line, HasCause, AsksFor, FileWas, FilesStay, OutputIs, Prints, IsDone, IsRefused, IsMissing};
+ghost use Rattle.cv_top.specs.Runs.{IsInForm, IsRefusedAs, IsPictureOf, image_line, HasCause, AsksFor, FileWas, FilesStay, OutputIs, Prints, IsDone, IsRefused, IsMissing};
 
 use crate::ends::End;
 use crate::quick::quick;
@@ -55,9 +56,9 @@ pub fn run_once<F: Shelf, T: Tray, O: Sink>(
         → IsInForm (F.file_at shelf.old order.csv) → ¬ Rose (F.faults shelf.old) (F.faults shelf.new)
         → ¬ Rose (T.faults tray.old) (T.faults tray.new) → ¬ Rose (O.faults out.old) (O.faults out.new)
         → IsDone result }
-    ensures refused { (order : QuickOrder) → IsQuick words.now order → IsTrue (F.tells shelf.old)
-        → IsNotInForm (F.file_at shelf.old order.csv) → ¬ Rose (F.faults shelf.old) (F.faults shelf.new)
-        → IsRefused result }
+    ensures refused { (order : QuickOrder) → IsQuick words.now order → (e : DataError)
+        → IsTrue (F.tells shelf.old) → IsRefusedAs (F.file_at shelf.old order.csv) e
+        → ¬ Rose (F.faults shelf.old) (F.faults shelf.new) → IsRefused result e }
     ensures missing { (order : QuickOrder) → IsQuick words.now order → IsTrue (F.tells shelf.old)
         → F.file_at shelf.old order.csv ≡ None → ¬ Rose (F.faults shelf.old) (F.faults shelf.new)
         → IsMissing result }
@@ -110,9 +111,9 @@ pub fn run<R: Threads + Wait + Sync, F: Shelf, T: Tray + Send, O: Sink, G: Gate 
         → IsInForm (F.file_at shelf.old order.csv) → ¬ Rose (F.faults shelf.old) (F.faults shelf.new)
         → ¬ Rose (T.faults tray.old) (T.faults tray.new) → ¬ Rose (O.faults out.old) (O.faults out.new)
         → IsDone result }
-    ensures refused { (order : QuickOrder) → IsQuick words.now order → IsTrue (F.tells shelf.old)
-        → IsNotInForm (F.file_at shelf.old order.csv) → ¬ Rose (F.faults shelf.old) (F.faults shelf.new)
-        → IsRefused result }
+    ensures refused { (order : QuickOrder) → IsQuick words.now order → (e : DataError)
+        → IsTrue (F.tells shelf.old) → IsRefusedAs (F.file_at shelf.old order.csv) e
+        → ¬ Rose (F.faults shelf.old) (F.faults shelf.new) → IsRefused result e }
     ensures missing { (order : QuickOrder) → IsQuick words.now order → IsTrue (F.tells shelf.old)
         → F.file_at shelf.old order.csv ≡ None → ¬ Rose (F.faults shelf.old) (F.faults shelf.new)
         → IsMissing result }
