@@ -1,11 +1,12 @@
 -- The words of `quick`.
-use Rattle.std.specs.Prelude.{◌≡◌, ℕ, ◌≤◌, List, [], ◌∷◌, length, take, drop, Ok, codes}
+use Rattle.std.specs.Prelude.{◌≡◌, ℕ, ℤ, ◌≤◌, List, [], ◌∷◌, length, take, drop, Ok, codes}
 use Rattle.std.specs.Str.Parse.{AllDigits, IsNumeral, digits_value}
 use Rattle.cv_model.specs.declared.colour.Rgb.{Rgb}
 use Rattle.cv_model.specs.Positions.{Rectangle}
 use Rattle.cv_model.specs.Views.{PixelGrid}
 use Rattle.cv_geom.specs.Views.{view_of}
-use Rattle.cv_wkt.specs.PlainForm.{IsPlainNumber}
+use Rattle.cv_decimal.specs.declared.fixed.Fixed.TheVariants.{Value}
+use Rattle.cv_decimal.specs.Spellings.{Spells}
 
 -- one to ten digits of this value
 pub record IsCount (word : List ℕ) (n : ℕ) : Type 0 where
@@ -25,12 +26,16 @@ pub record IsColour (word : List ℕ) (c : Rgb) : Type 0 where
   pub green : channel_at word 2 ≡ c.g
   pub blue : channel_at word 4 ≡ c.b
 
--- four words are the numbers of an extent, in millionths
+-- the word spells z millionths, as a decimal that is a value
+abbrev pub IsValueOf : List ℕ → ℤ → Type 0
+IsValueOf word z = Spells word (Value z)
+
+-- four words spell the numbers of an extent, in millionths
 pub record IsExtentOf (xmin ymin xmax ymax : List ℕ) (e : Rectangle) : Type 0 where
-  pub west : IsPlainNumber xmin e.xmin
-  pub south : IsPlainNumber ymin e.ymin
-  pub east : IsPlainNumber xmax e.xmax
-  pub north : IsPlainNumber ymax e.ymax
+  pub west : IsValueOf xmin e.xmin
+  pub south : IsValueOf ymin e.ymin
+  pub east : IsValueOf xmax e.xmax
+  pub north : IsValueOf ymax e.ymax
 
 -- what the words of `quick` ask for: the file to read, the picture to write, its view, and the fill
 pub record QuickOrder : Type 0 where

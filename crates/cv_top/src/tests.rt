@@ -28,10 +28,11 @@ fn files(alloc: Global, name: &str, text: &str) -> Result<Files, AllocError> {
     Ok(files)
 }
 
-// The words of a line, between single spaces.
+// The words of a line, between single spaces, or between bars where it has some.
 fn words(alloc: Global, line: &str) -> Result<Sequence<Text>, NoMemory> {
     let mut words = Sequence::new(alloc);
-    for word in line.split(' ') {
+    let between = if line.contains('|') { '|' } else { ' ' };
+    for word in line.split(between) {
         words.put(Text::of(alloc, word)?)?;
     }
     Ok(words)
@@ -228,8 +229,12 @@ fn words_that_are_no_form_are_usage(rt: HostRuntime) -> Result<(), Fail> {
         "quick sq.csv sq.ppm +4 4 0 0 4 4 ff0000",
         "quick sq.csv sq.ppm 4 4 0 0 0 4 ff0000",
         "quick sq.csv sq.ppm 4 4 0 4 4 0 ff0000",
-        "quick sq.csv sq.ppm 4 4 0 0 4. 4 ff0000",
-        "quick sq.csv sq.ppm 2 1 -999999999 -999999999 1e3 4 ff0000",
+        "quick sq.csv sq.ppm 4 4 0 0 nan 4 ff0000",
+        "quick sq.csv sq.ppm 4 4 0 0 1e10 4 ff0000",
+        "quick sq.csv sq.ppm 4 4 -1e10 0 4 4 ff0000",
+        "quick sq.csv sq.ppm 4 4 0  4 4 ff0000",
+        "quick|sq.csv|sq.ppm|4|4|0|0|1 |4|ff0000",
+        "quick sq.csv sq.ppm 4 4 0 0 0x1 4 ff0000",
         "quick sq.csv sq.ppm 4 4 0 0 4 4 ff000",
         "quick sq.csv sq.ppm 4 4 0 0 4 4 ff00000",
         "quick sq.csv sq.ppm 4 4 0 0 4 4 gf0000",
@@ -261,6 +266,32 @@ fn forms_of_words_give_their_view_and_fill(rt: HostRuntime) -> Result<(), Fail> 
             "quick sq.csv sq.ppm 2 2 0 0.000001 4 4 ff0000",
             "2 2",
             "../#.",
+        ),
+        (
+            "quick sq.csv sq.ppm 10 1 0 1 1e1 2 ff0000",
+            "10 1",
+            ".##.......",
+        ),
+        (
+            "quick sq.csv sq.ppm 4 1 +.5 1 2.5 1.5 ff0000",
+            "4 1",
+            ".###",
+        ),
+        // the centre lies half a millionth below the square's top edge; for 0 it would lie on it
+        (
+            "quick sq.csv sq.ppm 1 1 0 -0.0000005 4 6 ff0000",
+            "1 1",
+            "#",
+        ),
+        (
+            "quick sq.csv sq.ppm 4 4 0 0 4. 4 ff0000",
+            "4 4",
+            "..../.##./.##./....",
+        ),
+        (
+            "quick sq.csv sq.ppm 2 1 -999999999 -999999999 1e3 4 ff0000",
+            "2 1",
+            "..",
         ),
     ];
     for (line, size, rows) in rows {

@@ -6,12 +6,11 @@ ghost use Rattle.std.specs.Str.Parse.{AllDigits, digits_value};
 ghost use Rattle.cv_model.specs.declared.colour.Rgb.{Rgb};
 ghost use Rattle.cv_model.specs.Positions.{Rectangle, IsCoordinate};
 ghost use Rattle.cv_model.specs.Views.{PixelGrid};
-ghost use Rattle.cv_wkt.specs.PlainForm.{IsPlainNumber};
-ghost use Rattle.cv_top.specs.Words.{IsCount, IsColour, IsExtentOf, IsViewOf, IsPlan, IsQuick, QuickOrder};
+ghost use Rattle.cv_top.specs.Words.{IsCount, IsColour, IsValueOf, IsExtentOf, IsViewOf, IsPlan, IsQuick, QuickOrder};
 
+use cv_decimal::Fixed;
 use cv_geom::view_of;
 use cv_model::{Extent, Rgb, Text, View};
-use cv_wkt::plain_number;
 
 /// What the words of `quick` ask for.
 #[derive(Clone, Copy, Debug)]
@@ -112,13 +111,24 @@ fn is_quick(word: &str) -> bool
     word == "quick"
 }
 
-/// A word as a plain number, in millionths of a map unit.
+/// A word as a decimal that is a value, in millionths of a map unit.
 fn number(word: &str) -> Option<i64>
-    ensures found { IfSome result (λ z. IsPlainNumber word.now z) }
-    ensures only { (z : ℤ) → IsPlainNumber word.now z → result ≡ Some z }
+    ensures found { IfSome result (λ z. IsValueOf word.now z) }
+    ensures only { (z : ℤ) → IsValueOf word.now z → result ≡ Some z }
     ensures range { IfSome result (λ z. IsCoordinate z) }
 {
-    plain_number(word.as_bytes())
+    millionths(cv_decimal::read(word.as_bytes()).ok()?)
+}
+
+/// The millionths of a decimal that is a value.
+fn millionths(decimal: Fixed) -> Option<i64>
+    ensures found { IfSome result (λ z. decimal ≡ Fixed.Value z) }
+    ensures only { (z : ℤ) → decimal ≡ Fixed.Value z → result ≡ Some z }
+{
+    match decimal {
+        Fixed::Value(millionths) => Some(millionths),
+        Fixed::High | Fixed::Low | Fixed::NotNumber => None,
+    }
 }
 
 /// Four words as an extent.
