@@ -37,11 +37,17 @@ impl fmt::Display for DataError {
             DataError::Text(TextError::Uneven(n)) => {
                 write!(f, "record {n} has another number of fields than the header")
             }
+            DataError::Text(TextError::NotUtf8(0)) => {
+                write!(f, "the header has a field that is not UTF-8")
+            }
             DataError::Text(TextError::NotUtf8(n)) => {
                 write!(f, "record {n} has a field that is not UTF-8")
             }
             DataError::Text(TextError::TooMany) => {
-                write!(f, "more features, vertices or values than there is room for")
+                write!(
+                    f,
+                    "more features, vertices or values than there is room for"
+                )
             }
             DataError::Text(TextError::NoMemory) => write!(f, "out of memory"),
             DataError::TooLong => write!(f, "the file has more than 268435456 bytes"),

@@ -17,8 +17,9 @@ use std::thread::Threads;
 
 /// Runs the command that the words name, the program's own name not among them, on one thread.
 ///
-/// `quick <csv> <out> <w> <h> <xmin> <ymin> <xmax> <ymax> <rrggbb>` reads the delimited text, paints its polygons with
-/// the fill over white at the view of the extent, writes the picture as a pixmap, and prints `image w h`.
+/// `quick <csv> <out> <w> <h> <xmin> <ymin> <xmax> <ymax> <rrggbb>` reads the delimited text, whose column `wkt` has the
+/// geometries in well-known text, paints their polygons with the fill over white at the view of the extent, writes the
+/// picture as a pixmap, and prints `image w h`.
 /// The clauses speak of files, names and bytes where the device tells them.
 pub fn run_once<F: Shelf, T: Tray, O: Sink>(
     alloc: Global,
