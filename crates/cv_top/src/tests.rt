@@ -355,11 +355,6 @@ fn forms_of_words_give_their_view_and_fill(rt: HostRuntime) -> Result<(), Fail> 
     Ok(())
 }
 
-// The end where the text of this layer is refused.
-fn bad(layer: u32, error: TextError) -> End {
-    End::BadData(layer, DataError::Text(error))
-}
-
 #[test]
 fn ends_have_their_texts_and_statuses(rt: HostRuntime) -> Result<(), Fail> {
     let alloc = rt.alloc();
@@ -368,39 +363,9 @@ fn ends_have_their_texts_and_statuses(rt: HostRuntime) -> Result<(), Fail> {
         (End::NoMemory, 1, "out of memory"),
         (End::Usage, 2, "usage"),
         (
-            bad(3, TextError::NoHeader),
+            End::BadData(3, DataError::Text(TextError::NoHeader)),
             4,
             "bad data in layer 3: there is no header",
-        ),
-        (
-            bad(0, TextError::NoGeometryColumn),
-            4,
-            "bad data in layer 0: the header has no column of the geometry's name",
-        ),
-        (
-            bad(0, TextError::Uneven(3)),
-            4,
-            "bad data in layer 0: record 3 has another number of fields than the header",
-        ),
-        (
-            bad(0, TextError::NotUtf8(0)),
-            4,
-            "bad data in layer 0: the header has a field that is not UTF-8",
-        ),
-        (
-            bad(0, TextError::NotUtf8(12)),
-            4,
-            "bad data in layer 0: record 12 has a field that is not UTF-8",
-        ),
-        (
-            bad(0, TextError::TooMany),
-            4,
-            "bad data in layer 0: more features, vertices or values than there is room for",
-        ),
-        (
-            End::BadData(0, DataError::TooLong),
-            4,
-            "bad data in layer 0: the file has more than 268435456 bytes",
         ),
         (End::ReadFault(Which::Layer(0)), 6, "read fault"),
         (End::WriteFault(Which::Text), 7, "write fault"),
@@ -411,5 +376,41 @@ fn ends_have_their_texts_and_statuses(rt: HostRuntime) -> Result<(), Fail> {
         let printed = format!(in alloc; "{end}")?;
         assert_eq!(rt; printed.as_str(), text);
     }
+    Ok(())
+}
+
+#[test]
+fn refusals_have_their_texts(rt: HostRuntime) -> Result<(), Fail> {
+    let alloc = rt.alloc();
+    let rows = [
+        (
+            TextError::NoGeometryColumn,
+            "the header has no column of the geometry's name",
+        ),
+        (
+            TextError::Uneven(3),
+            "record 3 has another number of fields than the header",
+        ),
+        (
+            TextError::NotUtf8(0),
+            "the header has a field that is not UTF-8",
+        ),
+        (
+            TextError::NotUtf8(12),
+            "record 12 has a field that is not UTF-8",
+        ),
+        (
+            TextError::TooMany,
+            "more features, vertices or values than there is room for",
+        ),
+    ];
+    for (error, text) in rows {
+        let refused = DataError::Text(error);
+        let printed = format!(in alloc; "{refused}")?;
+        assert_eq!(rt; printed.as_str(), text);
+    }
+    let refused = DataError::TooLong;
+    let printed = format!(in alloc; "{refused}")?;
+    assert_eq!(rt; printed.as_str(), "the file has more than 268435456 bytes");
     Ok(())
 }
