@@ -43,7 +43,6 @@ fn with_fill(pixel: Rgba, geometry: &Geometry, fill: Option<Rgba>, p: Point2) ->
 }
 
 /// A pixel with the pen on it: once where it hits rings, and once more where it hits lines.
-#[tactic(auto, using(crate::proofs::Laying::laid_on_append))]
 fn with_pen(pixel: Rgba, geometry: &Geometry, pen: Option<Pen>, view: &View, p: Point2) -> Rgba
     requires { IfSome pen (λ pen. (1 ≤ pen.width) × (pen.width ≤ 64)) }
     ensures { result ≡ laid_on pixel (pen_strokes view.now p geometry.now pen) }
