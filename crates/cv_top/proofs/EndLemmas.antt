@@ -1,45 +1,11 @@
 -- Which end is left where no count rose.
-use Rattle.std.proofs.Common.{◌≡◌, ◌<◌, ℕ, List, length, Option, Some, None, IsSomeAnd, Err, cond, ap, refl, inl, inr}
-use Rattle.std.proofs.lemmas.Bool.{lt-ltb}
-use Rattle.cv_dtext.specs.Refusals.{features_of}
+use Rattle.std.proofs.Common.{ℕ, List, Option, refl, inl, inr}
 use Rattle.cv_top.specs.declared.ends.DataError.{DataError}
-use Rattle.cv_top.specs.declared.ends.DataError.TheVariants.{TooLong}
 use Rattle.cv_top.specs.declared.ends.End.{End}
 use Rattle.cv_top.specs.declared.ends.End.TheVariants.{Done, NoMemory, Usage, BadData, ReadFault, WriteFault, Missing}
 use Rattle.cv_top.specs.declared.ends.Which.TheVariants.{Layer, Output, Text}
-use Rattle.cv_top.specs.Opened.{most_bytes, quick_options, as_layer, layer_of}
 use Rattle.cv_top.specs.Runs.{IsInForm, IsRefusedAs, HasCause, FileWas, IsDone, IsRefused}
-
--- bytes past the limit are refused for it
-long_is_refused : (bytes : List ℕ) → most_bytes < length bytes → layer_of bytes ≡ Err TooLong
-unfolding layer_of
-long_is_refused bytes long =
-    ap (λ b. cond b (Err TooLong) (as_layer (features_of quick_options bytes))) (lt-ltb _ _ long)
-
--- and so is a file of them
-pub long_file_refused : (file : Option (List ℕ)) → IsSomeAnd file (λ bytes. most_bytes < length bytes) → IsRefusedAs file TooLong
-long_file_refused None long = long
-long_file_refused (Some bytes) long = long_is_refused bytes long
-
--- a file that spells features is not refused
-form_not_refused : (file : Option (List ℕ)) (e : DataError) → IsInForm file → IsRefusedAs file e → ⊥
-form_not_refused None e form refused = form
-form_not_refused (Some bytes) e form refused = let read = form.1 in absurd (cc)
-
--- a file is refused with one error
-one_refusal : (file : Option (List ℕ)) (a b : DataError) → IsRefusedAs file a → IsRefusedAs file b → a ≡ b
-one_refusal None a b first second = absurd first
-one_refusal (Some bytes) a b first second = cc
-
--- a file that spells features is there
-form_of_none : (file : Option (List ℕ)) → file ≡ None → IsInForm file → ⊥
-form_of_none None e form = form
-form_of_none (Some bytes) e form = absurd (cc)
-
--- a file that is refused is there
-refused_of_none : (file : Option (List ℕ)) (error : DataError) → file ≡ None → IsRefusedAs file error → ⊥
-refused_of_none None error e refused = refused
-refused_of_none (Some bytes) error e refused = absurd (cc)
+use Rattle.cv_top.proofs.LayerLemmas.{form_not_refused, one_refusal, form_of_none, refused_of_none}
 
 -- a file that spells features, and devices without a fault
 pub done_from : (end : End) (file : Option (List ℕ)) (read miss write print : Type 0) → HasCause end ⊥ (Unit {0}) read miss write print → FileWas end file → IsInForm file → (read → ⊥) → (write → ⊥) → (print → ⊥) → IsDone end

@@ -81,7 +81,7 @@ fn paint_file<T: Tray, O: Sink>(
 }
 
 /// Reads the layer's file, once, and paints what it spells.
-#[tactic(auto, using(crate::proofs::EndLemmas::long_file_refused))]
+#[tactic(auto, using(crate::proofs::LayerLemmas::long_file_refused))]
 pub(crate) fn quick<F: Shelf, T: Tray, O: Sink>(
     alloc: Global,
     order: &QuickWords<'_>,
