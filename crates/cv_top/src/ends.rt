@@ -99,3 +99,69 @@ impl End {
         }
     }
 }
+
+#[cfg(test)]
+mod tests {
+    use super::*;
+    use std::test::Fail;
+
+    #[test]
+    fn ends_have_their_texts_and_statuses(rt: HostRuntime) -> Result<(), Fail> {
+        let alloc = rt.alloc();
+        let rows = [
+            (End::Done, 0, ""),
+            (End::NoMemory, 1, "out of memory"),
+            (End::Usage, 2, "usage"),
+            (
+                End::BadData(3, DataError::Text(TextError::NoHeader)),
+                4,
+                "bad data in layer 3: there is no header",
+            ),
+            (End::ReadFault(Which::Layer(0)), 6, "read fault"),
+            (End::WriteFault(Which::Text), 7, "write fault"),
+            (End::Missing(Which::Layer(0)), 8, "file missing"),
+        ];
+        for (end, status, text) in rows {
+            assert_eq!(rt; end.status(), status, "{text}");
+            let printed = format!(in alloc; "{end}")?;
+            assert_eq!(rt; printed.as_str(), text);
+        }
+        Ok(())
+    }
+
+    #[test]
+    fn refusals_have_their_texts(rt: HostRuntime) -> Result<(), Fail> {
+        let alloc = rt.alloc();
+        let rows = [
+            (
+                TextError::NoGeometryColumn,
+                "the header has no column of the geometry's name",
+            ),
+            (
+                TextError::Uneven(3),
+                "record 3 has another number of fields than the header",
+            ),
+            (
+                TextError::NotUtf8(0),
+                "the header has a field that is not UTF-8",
+            ),
+            (
+                TextError::NotUtf8(12),
+                "record 12 has a field that is not UTF-8",
+            ),
+            (
+                TextError::TooMany,
+                "more features, vertices or values than there is room for",
+            ),
+        ];
+        for (error, text) in rows {
+            let refused = DataError::Text(error);
+            let printed = format!(in alloc; "{refused}")?;
+            assert_eq!(rt; printed.as_str(), text);
+        }
+        let refused = DataError::TooLong;
+        let printed = format!(in alloc; "{refused}")?;
+        assert_eq!(rt; printed.as_str(), "the file has more than 268435456 bytes");
+        Ok(())
+    }
+}

@@ -75,7 +75,36 @@ fn play<F: Shelf, T: Tray, O: Sink>(
     }
 }
 
-// The same with a handle and a gate.
+// What stands after a run over devices that never fail.
+#[derive(Drop)]
+struct Ran {
+    end: End,
+    shelf: SureShelf,
+    tray: SureTray,
+    out: SureSink,
+}
+
+impl Ran {
+    fn picture(&self) -> &[u8] {
+        bytes_of(self.tray.files(), "sq.ppm")
+    }
+}
+
+// A run with a layer under this name, and `old` under that of the picture.
+fn run_surely(alloc: Global, line: &str, name: &str, layer: &[u8]) -> Result<Ran, AllocError> {
+    let mut shelf = SureShelf::new(alloc, files(alloc, name, layer)?);
+    let mut tray = SureTray::new(alloc, files(alloc, "sq.ppm", b"old")?);
+    let mut out = SureSink::new(Vec::new(alloc));
+    let end = play(alloc, line, &mut shelf, &mut tray, &mut out);
+    Ok(Ran {
+        end,
+        shelf,
+        tray,
+        out,
+    })
+}
+
+// The same call with a handle and a gate, at these types.
 fn play_with<R: Threads + Wait + Sync, F: Shelf, T: Tray + Send, O: Sink>(
     rt: &R,
     alloc: Global,
@@ -146,14 +175,11 @@ fn polygons_are_painted_at_their_centres(rt: HostRuntime) -> Result<(), Fail> {
         ),
     ];
     for (text, picture) in rows {
-        let mut shelf = SureShelf::new(alloc, files(alloc, "sq.csv", text.as_bytes())?);
-        let mut tray = SureTray::new(alloc, files(alloc, "", b"")?);
-        let mut out = SureSink::new(Vec::new(alloc));
-        let end = play(alloc, FOUR, &mut shelf, &mut tray, &mut out);
-        assert_eq!(rt; end, End::Done, "{text}");
-        assert_eq!(rt; out.bytes(), b"image 4 4\n".as_slice(), "{text}");
+        let ran = run_surely(alloc, FOUR, "sq.csv", text.as_bytes())?;
+        assert_eq!(rt; ran.end, End::Done, "{text}");
+        assert_eq!(rt; ran.out.bytes(), b"image 4 4\n".as_slice(), "{text}");
         let want = pixmap(alloc, picture, "4 4")?;
-        assert_eq!(rt; bytes_of(tray.files(), "sq.ppm"), want.as_slice(), "{text}");
+        assert_eq!(rt; ran.picture(), want.as_slice(), "{text}");
     }
     Ok(())
 }
@@ -175,17 +201,10 @@ fn bytes_that_spell_no_features_are_refused(rt: HostRuntime) -> Result<(), Fail>
         (b"id,\xff\n", TextError::NotUtf8(0)),
     ];
     for (bytes, error) in rows {
-        let mut shelf = SureShelf::new(alloc, files(alloc, "sq.csv", bytes)?);
-        let mut tray = SureTray::new(alloc, files(alloc, "sq.ppm", b"old")?);
-        let mut out = SureSink::new(Vec::new(alloc));
-        let end = play(alloc, FOUR, &mut shelf, &mut tray, &mut out);
-        assert_eq!(rt; end, End::BadData(0, DataError::Text(error)));
-        assert_eq!(rt;
-            bytes_of(tray.files(), "sq.ppm"),
-            b"old".as_slice(),
-            "{end}"
-        );
-        assert_eq!(rt; out.bytes(), b"".as_slice(), "{end}");
+        let ran = run_surely(alloc, FOUR, "sq.csv", bytes)?;
+        assert_eq!(rt; ran.end, End::BadData(0, DataError::Text(error)));
+        assert_eq!(rt; ran.picture(), b"old".as_slice(), "{}", ran.end);
+        assert_eq!(rt; ran.out.bytes(), b"".as_slice(), "{}", ran.end);
     }
     Ok(())
 }
@@ -201,11 +220,8 @@ fn a_file_is_missing_only_where_it_is_absent(rt: HostRuntime) -> Result<(), Fail
         ("sq.csv", End::Done),
     ];
     for (name, want) in rows {
-        let mut shelf = SureShelf::new(alloc, files(alloc, name, SQUARE.as_bytes())?);
-        let mut tray = SureTray::new(alloc, files(alloc, "", b"")?);
-        let mut out = SureSink::new(Vec::new(alloc));
-        let end = play(alloc, FOUR, &mut shelf, &mut tray, &mut out);
-        assert_eq!(rt; end, want, "{name}");
+        let ran = run_surely(alloc, FOUR, name, SQUARE.as_bytes())?;
+        assert_eq!(rt; ran.end, want, "{name}");
     }
     Ok(())
 }
@@ -290,12 +306,9 @@ fn words_that_are_no_form_are_usage(rt: HostRuntime) -> Result<(), Fail> {
         "quick sq.csv sq.ppm 4 4 0 0 4 4 +f0000",
     ];
     for line in rows {
-        let mut shelf = SureShelf::new(alloc, files(alloc, "sq.csv", SQUARE.as_bytes())?);
-        let mut tray = SureTray::new(alloc, files(alloc, "", b"")?);
-        let mut out = SureSink::new(Vec::new(alloc));
-        let end = play(alloc, line, &mut shelf, &mut tray, &mut out);
-        assert_eq!(rt; end, End::Usage, "{line}");
-        assert_eq!(rt; shelf.asked().len(), 0, "{line}");
+        let ran = run_surely(alloc, line, "sq.csv", SQUARE.as_bytes())?;
+        assert_eq!(rt; ran.end, End::Usage, "{line}");
+        assert_eq!(rt; ran.shelf.asked().len(), 0, "{line}");
     }
     Ok(())
 }
@@ -344,73 +357,10 @@ fn forms_of_words_give_their_view_and_fill(rt: HostRuntime) -> Result<(), Fail> 
         ),
     ];
     for (line, size, rows) in rows {
-        let mut shelf = SureShelf::new(alloc, files(alloc, "sq.csv", SQUARE.as_bytes())?);
-        let mut tray = SureTray::new(alloc, files(alloc, "", b"")?);
-        let mut out = SureSink::new(Vec::new(alloc));
-        let end = play(alloc, line, &mut shelf, &mut tray, &mut out);
-        assert_eq!(rt; end, End::Done, "{line}");
+        let ran = run_surely(alloc, line, "sq.csv", SQUARE.as_bytes())?;
+        assert_eq!(rt; ran.end, End::Done, "{line}");
         let want = pixmap(alloc, rows, size)?;
-        assert_eq!(rt; bytes_of(tray.files(), "sq.ppm"), want.as_slice(), "{line}");
+        assert_eq!(rt; ran.picture(), want.as_slice(), "{line}");
     }
-    Ok(())
-}
-
-#[test]
-fn ends_have_their_texts_and_statuses(rt: HostRuntime) -> Result<(), Fail> {
-    let alloc = rt.alloc();
-    let rows = [
-        (End::Done, 0, ""),
-        (End::NoMemory, 1, "out of memory"),
-        (End::Usage, 2, "usage"),
-        (
-            End::BadData(3, DataError::Text(TextError::NoHeader)),
-            4,
-            "bad data in layer 3: there is no header",
-        ),
-        (End::ReadFault(Which::Layer(0)), 6, "read fault"),
-        (End::WriteFault(Which::Text), 7, "write fault"),
-        (End::Missing(Which::Layer(0)), 8, "file missing"),
-    ];
-    for (end, status, text) in rows {
-        assert_eq!(rt; end.status(), status, "{text}");
-        let printed = format!(in alloc; "{end}")?;
-        assert_eq!(rt; printed.as_str(), text);
-    }
-    Ok(())
-}
-
-#[test]
-fn refusals_have_their_texts(rt: HostRuntime) -> Result<(), Fail> {
-    let alloc = rt.alloc();
-    let rows = [
-        (
-            TextError::NoGeometryColumn,
-            "the header has no column of the geometry's name",
-        ),
-        (
-            TextError::Uneven(3),
-            "record 3 has another number of fields than the header",
-        ),
-        (
-            TextError::NotUtf8(0),
-            "the header has a field that is not UTF-8",
-        ),
-        (
-            TextError::NotUtf8(12),
-            "record 12 has a field that is not UTF-8",
-        ),
-        (
-            TextError::TooMany,
-            "more features, vertices or values than there is room for",
-        ),
-    ];
-    for (error, text) in rows {
-        let refused = DataError::Text(error);
-        let printed = format!(in alloc; "{refused}")?;
-        assert_eq!(rt; printed.as_str(), text);
-    }
-    let refused = DataError::TooLong;
-    let printed = format!(in alloc; "{refused}")?;
-    assert_eq!(rt; printed.as_str(), "the file has more than 268435456 bytes");
     Ok(())
 }
