@@ -1,5 +1,5 @@
 -- What the cell of a record's geometry says.
-use Rattle.std.specs.Prelude.{ℕ, ◌==◌, ◌||◌, Bool, if◌then◌else◌, List, [], ◌∷◌, Option, Some, None, Result, Ok, Err}
+use Rattle.std.specs.Prelude.{ℕ, ◌==◌, ◌||◌, Bool, if◌then◌else◌, List, Option, Some, None, Result, Ok, Err}
 use Rattle.std.specs.List.{list_all}
 use Rattle.cv_model.specs.Geometries.{GeometryLists, vertices_of}
 use Rattle.cv_model.specs.declared.geometry.WktError.{WktError}

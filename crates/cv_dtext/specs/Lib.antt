@@ -3,3 +3,4 @@ pub mod Records
 pub mod Cells
 pub mod Tables
 pub mod Refusals
+pub mod Reading

@@ -1,7 +1,7 @@
 -- Why a delimited text is refused, and what a reader answers: the first record that shows a cause decides.
-use Rattle.std.specs.Prelude.{ℕ, ◌+◌, ◌==◌, nat_lt, Bool, not, ◌||◌, if◌then◌else◌, List, [], ◌∷◌, ◌++◌, length, sum_by, Option, Some, None, Result, Ok, Err}
+use Rattle.std.specs.Prelude.{◌≡◌, ◌⊎◌, ℕ, ◌+◌, ◌==◌, nat_lt, Bool, not, ◌||◌, if◌then◌else◌, List, [], ◌∷◌, ◌++◌, length, sum_by, Option, Some, None, Result, Ok, Err}
 use Rattle.std.specs.List.{list_all}
-use Rattle.std.specs.Option.{option_or}
+use Rattle.std.specs.Option.{option_or, unwrap_or, is_none}
 use Rattle.std.specs.Str.{is_utf8}
 use Rattle.cv_model.specs.declared.feature.Room.{Room}
 use Rattle.cv_model.specs.Features.{FeatureTable}
@@ -71,3 +71,45 @@ answer options (header ∷ rows) =
 -- the features of a delimited text, or why it is refused
 unfoldable pub features_of : TextOptions → List ℕ → Result FeatureTable TextError
 features_of options bytes = answer options (records_of options.delimiter bytes)
+
+-- ---- the same, said of one record: it shows a cause, and none before it does
+
+-- what the header shows: a field that is no text, or no field that is the name of the geometry's column
+abbrev pub shown_in_header : TextOptions → Fields → Option TextError
+shown_in_header options header =
+    if not (are_texts header) then Some (NotUtf8 0)
+    else if is_none (column_of options.geometry header) then Some NoGeometryColumn
+    else None
+
+-- what a record shows behind those before it, the first of which is the header
+abbrev pub shown_behind : TextOptions → List Fields → Fields → Option TextError
+shown_behind options [] header = shown_in_header options header
+shown_behind options (header ∷ before) fields =
+    shown options.room (unwrap_or (column_of options.geometry header) 0) (length header) before fields
+
+-- each record shows nothing behind those before it
+abbrev pub NoneShown : TextOptions → List Fields → Type 0
+NoneShown options rows = (before rest : List Fields) (fields : Fields) → rows ≡ before ++ fields ∷ rest → shown_behind options before fields ≡ None
+
+-- a record shows the cause, and no record before it shows any
+pub record IsFirstShown (options : TextOptions) (rows : List Fields) (e : TextError) : Type 0 where
+  pub before : List Fields
+  pub fields : Fields
+  pub rest : List Fields
+  pub split : rows ≡ before ++ fields ∷ rest
+  pub calm : NoneShown options before
+  pub shows : shown_behind options before fields ≡ Some e
+
+-- why a text is refused: it has no record, or its first record that shows a cause shows this one
+abbrev pub IsRefused : TextOptions → List ℕ → TextError → Type 0
+IsRefused options bytes e = ((records_of options.delimiter bytes ≡ []) × (e ≡ NoHeader)) ⊎ IsFirstShown options (records_of options.delimiter bytes) e
+
+-- what a text is read as: it has a header with the geometry's column, and no record shows a cause
+pub record IsRead (options : TextOptions) (bytes : List ℕ) (table : FeatureTable) : Type 0 where
+  pub header : Fields
+  pub rows : List Fields
+  pub place : ℕ
+  pub records : records_of options.delimiter bytes ≡ header ∷ rows
+  pub column : column_of options.geometry header ≡ Some place
+  pub calm : NoneShown options (header ∷ rows)
+  pub made : table ≡ table_of place header rows

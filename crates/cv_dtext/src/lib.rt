@@ -6,11 +6,18 @@
 //! Memory is taken for what is read and for one record at a time; no handle is needed.
 #![tactic(auto)]
 
-ghost use Rattle.std.specs.Prelude.{◌≡◌, ◌≢◌, ◌≤◌, length, Err};
-ghost use Rattle.cv_dtext.specs.Refusals.{features_of};
+ghost use Rattle.std.specs.Prelude.{◌≡◌, ◌≢◌, ◌≤◌, ◌↔◌, length, Ok, Err, IfOk};
+ghost use Rattle.cv_model.specs.Features.{FeatureTable};
+ghost use Rattle.cv_dtext.specs.Refusals.{IsRead, IsRefused, features_of};
 
 mod cell;
+mod counts;
+mod fields;
+mod gathered;
 pub mod options;
+mod records;
+mod rows;
+mod table;
 
 use cv_model::FeatureList;
 pub use options::{TextError, TextOptions};
@@ -24,7 +31,19 @@ use std::alloc::Global;
 /// Source: RFC 4180 as the crate `csv` reads it, without trimming; well-known text of OGC 06-103r4.
 pub fn read(alloc: Global, bytes: &[u8], options: &TextOptions) -> Result<FeatureList, TextError>
     requires { length bytes.now ≤ 268435456 }
+    // The records have a header with the geometry's column, none shows a cause, and the table is theirs.
+    ensures found { IfOk result (IsRead options.now bytes.now) }
+    ensures only { (table : FeatureTable) → IsRead options.now bytes.now table → (result ≢ Err TextError.NoMemory)
+        → result ≡ Ok table }
+
+    // There is no record, or the first that shows a cause shows this one.
+    ensures fault { (e : TextError) → (result ≢ Err TextError.NoMemory) → (result ≡ Err e) ↔ IsRefused options.now bytes.now e }
+
+    // The same as a function.
     ensures exact { (result ≢ Err TextError.NoMemory) → result ≡ features_of options.now bytes.now }
 {
-    Err(TextError::NoMemory)
+    table::read_table(alloc, bytes, options)
 }
+
+#[cfg(test)]
+mod tests;

@@ -1,0 +1,78 @@
+//! One record after the other.
+
+ghost use Rattle.std.specs.Prelude.{◌≡◌, ◌≤◌, Option, List, ℕ, Some, None, length};
+ghost use Rattle.csv.specs.declared.parser.State.{State};
+ghost use Rattle.cv_model.specs.declared.delimiter.Delimiter.{Delimiter};
+ghost use Rattle.cv_dtext.specs.Records.{delimiter_byte, records_of};
+ghost use Rattle.cv_dtext.specs.Reading.{Stands, IsNext, IsBetween, IsNextTexts, rows_left, unread};
+
+use crate::options::TextError;
+use csv::{ByteRecord, ErrorKind, Reader, ReaderBuilder, StringRecord};
+use cv_model::Delimiter;
+use std::alloc::Global;
+
+fn delimiter_byte(delimiter: Delimiter) -> u8
+    ensures { result ≡ delimiter_byte delimiter }
+{
+    match delimiter {
+        Delimiter::Comma => b',',
+        Delimiter::Semicolon => b';',
+        Delimiter::Tab => b'\t',
+    }
+}
+
+/// A reader of the records of these bytes, without one that is a header of its own.
+pub fn records(alloc: Global, bytes: &[u8], delimiter: Delimiter) -> Reader<&[u8]>
+    ensures between { IsBetween (λ r. Some r.now) delimiter result }
+    ensures first { result.expected ≡ None }
+    ensures all { rows_left (λ r. Some r.now) delimiter result ≡ records_of delimiter bytes.now }
+    ensures short { length (unread (λ r. Some r.now) result) ≤ length bytes.now }
+{
+    ReaderBuilder::new()
+        .delimiter(delimiter_byte(delimiter))
+        .has_headers(false)
+        .from_reader(alloc, bytes)
+}
+
+/// The next record, if there is one; it is counted by this number.
+fn next_row(
+    alloc: Global,
+    reader: &mut Reader<&[u8]>,
+    number: u32,
+) -> Result<Option<ByteRecord>, TextError>
+    ensures { (d : Delimiter) (s : State) (left : List ℕ) (width : Option ℕ)
+        → Stands (λ r. Some r.now) d reader.old s left width
+        → IsNext (λ r. Some r.now) d s left width number reader.new result }
+{
+    let mut row = ByteRecord::new(alloc);
+    match reader.read_byte_record(&mut row) {
+        Ok(true) => Ok(Some(row)),
+        Ok(false) => Ok(None),
+        Err(error) => match error.into_kind() {
+            ErrorKind::UnequalLengths { .. } => Err(TextError::Uneven(number)),
+            _ => Err(TextError::NoMemory),
+        },
+    }
+}
+
+/// The next record of texts, if there is a record; it is counted by this number.
+pub fn next_texts(
+    alloc: Global,
+    reader: &mut Reader<&[u8]>,
+    number: u32,
+) -> Result<Option<StringRecord>, TextError>
+    ensures { (d : Delimiter) → IsBetween (λ r. Some r.now) d reader.old
+        → IsNextTexts (λ r. Some r.now) d number reader.old reader.new result }
+{
+    let next = match next_row(alloc, reader, number) {
+        Ok(next) => next,
+        Err(refusal) => return Err(refusal),
+    };
+    let Some(row) = next else {
+        return Ok(None);
+    };
+    match StringRecord::from_byte_record(row) {
+        Ok(texts) => Ok(Some(texts)),
+        Err(_) => Err(TextError::NotUtf8(number)),
+    }
+}

@@ -1,0 +1,42 @@
+//! The whole text: its header, and the features behind it.
+
+ghost use Rattle.std.specs.Prelude.{◌≡◌, ◌≢◌, ◌≤◌, length, Ok, Err, IfOk, IfErr};
+ghost use Rattle.cv_dtext.specs.Refusals.{features_of};
+
+use crate::fields::{column, other_texts};
+use crate::options::{TextError, TextOptions};
+use crate::records::{next_texts, records};
+use crate::rows::gather;
+use cv_model::FeatureList;
+use std::alloc::Global;
+
+/// The features of a text, or why it is refused; or want of memory.
+pub fn read_table(
+    alloc: Global,
+    bytes: &[u8],
+    options: &TextOptions,
+) -> Result<FeatureList, TextError>
+    requires { length bytes.now ≤ 268435456 }
+    ensures ok { IfOk result (λ table. features_of options.now bytes.now ≡ Ok table) }
+    ensures err { IfErr result (λ e. e ≢ TextError.NoMemory → features_of options.now bytes.now ≡ Err e) }
+{
+    let mut reader = records(alloc, bytes, options.delimiter);
+    let next = match next_texts(alloc, &mut reader, 0) {
+        Ok(next) => next,
+        Err(refusal) => return Err(refusal),
+    };
+    let Some(header) = next else {
+        return Err(TextError::NoHeader);
+    };
+    let Some(place) = column(&header, options.geometry.as_str()) else {
+        return Err(TextError::NoGeometryColumn);
+    };
+    let gathered = match gather(alloc, &mut reader, &header, place, options) {
+        Ok(gathered) => gathered,
+        Err(refusal) => return Err(refusal),
+    };
+    let Ok(columns) = other_texts(alloc, &header, place) else {
+        return Err(TextError::NoMemory);
+    };
+    Ok(FeatureList::of(columns, gathered.features, gathered.notes))
+}
