@@ -1,5 +1,4 @@
--- Lemmas on the words of a command and on the lines of a text in the plain form.
+-- Lemmas on the words of a command, on a layer's file and on the ends.
 pub mod WordLemmas
-pub mod QuotedLemmas
-pub mod LineLemmas
+pub mod LayerLemmas
 pub mod EndLemmas

@@ -1,5 +1,5 @@
--- What the command's words ask for, what a file in the plain form says, and what stands at each end.
+-- What the command's words ask for, what a layer's file says, and what stands at each end.
 pub mod Words
-pub mod PlainText
+pub mod Opened
 pub mod Ends
 pub mod Runs

@@ -1,10 +1,9 @@
 -- What a run of `quick` leaves behind, by the end that it answers.
-use Rattle.std.specs.Prelude.{◌≡◌, ℕ, ◌≤◌, ◌⊎◌, List, [], ◌∷◌, ◌++◌, length, take, codes, Option, None, IsSomeAnd}
+use Rattle.std.specs.Prelude.{◌≡◌, ℕ, ◌≤◌, ◌⊎◌, List, [], ◌∷◌, ◌++◌, length, take, codes, Option, None, IsSomeAnd, Ok, Err}
 use Rattle.std.specs.Fmt.{decimal}
 use Rattle.cv_model.specs.declared.colour.Rgb.{Rgb}
-use Rattle.cv_model.specs.Positions.{Position}
 use Rattle.cv_model.specs.Views.{PixelGrid}
-use Rattle.cv_model.specs.Layers.{polygons_project}
+use Rattle.cv_model.specs.Features.{FeatureTable}
 use Rattle.cv_model.specs.Rasters.{ppm_of}
 use Rattle.cv_model.specs.Pictures.{picture}
 use Rattle.cv_outside.specs.Reads.{SameFiles}
@@ -13,26 +12,26 @@ use Rattle.cv_top.specs.declared.ends.End.{End}
 use Rattle.cv_top.specs.declared.ends.End.TheVariants.{Done, NoMemory, Usage, BadData, ReadFault, WriteFault, Missing}
 use Rattle.cv_top.specs.declared.ends.Which.{Which}
 use Rattle.cv_top.specs.declared.ends.Which.TheVariants.{Layer, Output, Text}
-use Rattle.cv_top.specs.declared.ends.DataError.TheVariants.{NotBuilt}
-use Rattle.cv_top.specs.PlainText.{IsPlainText}
+use Rattle.cv_top.specs.declared.ends.DataError.{DataError}
+use Rattle.cv_top.specs.Opened.{layer_of, quick_project}
 
--- the file is there and is a text in the plain form
+-- the file is there and spells features
 abbrev pub IsInForm : Option (List ℕ) → Type 0
-IsInForm file = IsSomeAnd file (λ bytes. (polygons : List (List (List Position))) × IsPlainText bytes polygons)
+IsInForm file = IsSomeAnd file (λ bytes. (table : FeatureTable) × (layer_of bytes ≡ Ok table))
 
--- the file is there and is no text in the plain form
-abbrev pub IsNotInForm : Option (List ℕ) → Type 0
-IsNotInForm file = IsSomeAnd file (λ bytes. (polygons : List (List (List Position))) → IsPlainText bytes polygons → ⊥)
+-- the file is there and its bytes are refused with this error
+abbrev pub IsRefusedAs : Option (List ℕ) → DataError → Type 0
+IsRefusedAs file error = IsSomeAnd file (λ bytes. layer_of bytes ≡ Err error)
 
--- the bytes of the picture of these polygons
-abbrev pub picture_bytes : List (List (List Position)) → Rgb → PixelGrid → List ℕ
-picture_bytes polygons fill view = ppm_of (picture (polygons_project polygons fill) view)
+-- the bytes of the picture of these features
+abbrev pub picture_bytes : FeatureTable → Rgb → PixelGrid → List ℕ
+picture_bytes table fill view = ppm_of (picture (quick_project table fill) view)
 
 -- these are the bytes of the picture of what the file spells
 abbrev pub IsPictureOf : Option (List ℕ) → Rgb → PixelGrid → List ℕ → Type 0
 IsPictureOf file fill view made =
-    IsSomeAnd file (λ bytes. (polygons : List (List (List Position)))
-    × IsPlainText bytes polygons × (made ≡ picture_bytes polygons fill view))
+    IsSomeAnd file (λ bytes. (table : FeatureTable)
+    × (layer_of bytes ≡ Ok table) × (made ≡ picture_bytes table fill view))
 
 -- what `quick` prints: the size of its picture
 abbrev pub image_line : PixelGrid → List ℕ
@@ -70,7 +69,7 @@ abbrev pub FileWas : End → Option (List ℕ) → Type 0
 FileWas Done file = IsInForm file
 FileWas NoMemory file = Unit {0}
 FileWas Usage file = Unit {0}
-FileWas (BadData place error) file = IsNotInForm file
+FileWas (BadData place error) file = IsRefusedAs file error
 FileWas (ReadFault which) file = Unit {0}
 FileWas (WriteFault which) file = IsInForm file
 FileWas (Missing which) file = file ≡ None
@@ -117,9 +116,9 @@ Prints (WriteFault (Layer place)) old new text = ⊥
 abbrev pub IsDone : End → Type 0
 IsDone end = (end ≡ Done) ⊎ (end ≡ NoMemory)
 
--- the bytes were refused, but for want of memory
-abbrev pub IsRefused : End → Type 0
-IsRefused end = (end ≡ BadData 0 NotBuilt) ⊎ (end ≡ NoMemory)
+-- the bytes were refused with this error, but for want of memory
+abbrev pub IsRefused : End → DataError → Type 0
+IsRefused end error = (end ≡ BadData 0 error) ⊎ (end ≡ NoMemory)
 
 -- the file was missing, but for want of memory
 abbrev pub IsMissing : End → Type 0

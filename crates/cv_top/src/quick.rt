@@ -1,29 +1,47 @@
 //! The command `quick`: one read, one picture, one line.
 
 ghost use Rattle.std.specs.Prelude.{◌≡◌, ◌≤◌, ⊤, ℕ, List, Some, length, IfOk, IsTrue};
+ghost use Rattle.cv_model.specs.Symbols.{filled};
 ghost use Rattle.cv_outside.specs.Counts.{Rose};
-ghost use Rattle.cv_top.specs.PlainText.{most_bytes};
+ghost use Rattle.cv_top.specs.Opened.{most_bytes};
 ghost use Rattle.cv_top.specs.Runs.{picture_bytes, IsPictureOf, image_line, HasCause, AsksFor, FileWas, FilesStay, OutputIs, Prints};
 
 use crate::ends::{DataError, End, Which};
+use crate::layer::{MOST_BYTES, read_layer};
 use crate::outputs::{image_line, write_outputs};
-use crate::plain_text::{MOST_BYTES, plain_text};
 use crate::words::QuickWords;
 use cv_image::ppm;
-use cv_model::{NoMemory, Polygon, Rgb, View};
+use cv_model::{FeatureList, NoMemory, Rgb, Rgba, Symbol, View};
 use cv_outside::{Shelf, Sink, Tray, Unread, read_file};
 use std::alloc::Global;
 
-/// The bytes of the picture of these polygons.
+/// The symbol of an opaque fill alone.
+fn filled(fill: Rgb) -> Symbol
+    ensures { result ≡ filled fill }
+{
+    let fill = Rgba {
+        r: fill.r,
+        g: fill.g,
+        b: fill.b,
+        a: 255,
+    };
+    Symbol {
+        fill: Some(fill),
+        pen: None,
+        marker: None,
+    }
+}
+
+/// The bytes of the picture of these features.
 fn picture_bytes(
     alloc: Global,
-    polygons: &[Polygon],
+    features: &FeatureList,
     fill: Rgb,
     view: &View,
 ) -> Result<Vec<u8>, NoMemory>
-    ensures { IfOk result (λ bytes. bytes.items ≡ picture_bytes polygons.now fill view.now) }
+    ensures { IfOk result (λ bytes. bytes.items ≡ picture_bytes features.now fill view.now) }
 {
-    let picture = cv_paint::quick(alloc, polygons, fill, view)?;
+    let picture = cv_paint::quick(alloc, features, &filled(fill), view)?;
     let bytes = ppm(alloc, &picture)?;
     Ok(bytes)
 }
@@ -48,12 +66,12 @@ fn paint_file<T: Tray, O: Sink>(
     ensures text { IsTrue (O.tells out.old)
         → Prints result (O.taken out.old) (O.taken out.new) (image_line order.now.view) }
 {
-    let polygons = match plain_text(alloc, bytes) {
-        Ok(Some(polygons)) => polygons,
-        Ok(None) => return End::BadData(0, DataError::NotBuilt),
+    let features = match read_layer(alloc, bytes) {
+        Ok(Ok(features)) => features,
+        Ok(Err(error)) => return End::BadData(0, error),
         Err(_) => return End::NoMemory,
     };
-    let Ok(picture) = picture_bytes(alloc, polygons.as_slice(), order.fill, &order.view) else {
+    let Ok(picture) = picture_bytes(alloc, &features, order.fill, &order.view) else {
         return End::NoMemory;
     };
     let Ok(line) = image_line(alloc, &order.view) else {
@@ -63,6 +81,7 @@ fn paint_file<T: Tray, O: Sink>(
 }
 
 /// Reads the layer's file, once, and paints what it spells.
+#[tactic(auto, using(crate::proofs::LayerLemmas::long_file_refused))]
 pub(crate) fn quick<F: Shelf, T: Tray, O: Sink>(
     alloc: Global,
     order: &QuickWords<'_>,
@@ -87,7 +106,7 @@ pub(crate) fn quick<F: Shelf, T: Tray, O: Sink>(
 {
     match read_file(alloc, shelf, order.csv, MOST_BYTES) {
         Ok(bytes) => paint_file(alloc, bytes.as_slice(), order, tray, out),
-        Err(Unread::TooLong) => End::BadData(0, DataError::NotBuilt),
+        Err(Unread::TooLong) => End::BadData(0, DataError::TooLong),
         Err(Unread::Absent) => End::Missing(Which::Layer(0)),
         Err(Unread::Failed) => End::ReadFault(Which::Layer(0)),
         Err(Unread::NoMemory) => End::NoMemory,

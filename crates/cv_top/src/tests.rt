@@ -1,5 +1,6 @@
 //! The command over devices in memory: worked maps, each device failing in turn, and words that are no form.
 use super::*;
+use cv_dtext::TextError;
 use cv_model::{NoMemory, Sequence, Text};
 use cv_outside::{
     MemShelf, MemSink, MemTray, Open, Shelf, Sink, SureShelf, SureSink, SureTray, Tray,
@@ -19,10 +20,10 @@ const FOUR: &str = "quick sq.csv sq.ppm 4 4 0 0 4 4 ff0000";
 const ALL: u64 = u64::MAX;
 
 // A map of one file, or of none where its name is empty.
-fn files(alloc: Global, name: &str, text: &str) -> Result<Files, AllocError> {
+fn files(alloc: Global, name: &str, bytes: &[u8]) -> Result<Files, AllocError> {
     let mut files = BTreeMap::new(alloc);
     if !name.is_empty() {
-        let bytes = Vec::from_slice(alloc, text.as_bytes())?;
+        let bytes = Vec::from_slice(alloc, bytes)?;
         files.insert(String::from_str(alloc, name)?, bytes)?;
     }
     Ok(files)
@@ -74,7 +75,36 @@ fn play<F: Shelf, T: Tray, O: Sink>(
     }
 }
 
-// The same with a handle and a gate.
+// What stands after a run over devices that never fail.
+#[derive(Drop)]
+struct Ran {
+    end: End,
+    shelf: SureShelf,
+    tray: SureTray,
+    out: SureSink,
+}
+
+impl Ran {
+    fn picture(&self) -> &[u8] {
+        bytes_of(self.tray.files(), "sq.ppm")
+    }
+}
+
+// A run with a layer under this name, and `old` under that of the picture.
+fn run_surely(alloc: Global, line: &str, name: &str, layer: &[u8]) -> Result<Ran, AllocError> {
+    let mut shelf = SureShelf::new(alloc, files(alloc, name, layer)?);
+    let mut tray = SureTray::new(alloc, files(alloc, "sq.ppm", b"old")?);
+    let mut out = SureSink::new(Vec::new(alloc));
+    let end = play(alloc, line, &mut shelf, &mut tray, &mut out);
+    Ok(Ran {
+        end,
+        shelf,
+        tray,
+        out,
+    })
+}
+
+// The same call with a handle and a gate, at these types.
 fn play_with<R: Threads + Wait + Sync, F: Shelf, T: Tray + Send, O: Sink>(
     rt: &R,
     alloc: Global,
@@ -94,6 +124,7 @@ fn polygons_are_painted_at_their_centres(rt: HostRuntime) -> Result<(), Fail> {
     let alloc = rt.alloc();
     let square = "..../.##./.##./....";
     let holed = "####/####/..##/####";
+    let white = "..../..../..../....";
     let all = "####/####/####/####";
     let rows = [
         (SQUARE, square),
@@ -114,49 +145,83 @@ fn polygons_are_painted_at_their_centres(rt: HostRuntime) -> Result<(), Fail> {
             "wkt\n\"POLYGON((2 -9,999999999.999999 2,2 9,-999999999 2))\"\n",
             all,
         ),
-        ("wkt\n", "..../..../..../...."),
+        ("wkt\n", white),
+        // points and lines have no fill, nor has a record without a geometry
+        ("wkt\n\"POINT(1 2)\"\n", white),
+        ("wkt\n\"LINESTRING(0 0,4 0,4 4,0 4,0 0)\"\n", white),
+        (
+            "wkt,name\n,nowhere\n  ,nowhere\nPOLYGON((1 1,refused\n",
+            white,
+        ),
+        // the column stands among others
+        (
+            "id,wkt,name\n7,\"POLYGON((1 1,3 1,3 3,1 3,1 1))\",here\n",
+            square,
+        ),
+        (
+            "wkt,wkt\n\"POLYGON((1 1,3 1,3 3,1 3))\",POINT(1 2)\n",
+            square,
+        ),
+        (
+            "name,wkt\n\"a, \"\"b\"\"\",\"POLYGON((1 1,3 1,3 3,1 3))\"\n",
+            square,
+        ),
+        // lines end in other ways
+        ("wkt\r\n\"POLYGON((1 1,3 1,3 3,1 3,1 1))\"\r\n", square),
+        ("\n\nwkt\n\n\"POLYGON((1 1,3 1,3 3,1 3,1 1))\"", square),
+        (
+            "\u{feff}wkt\n\"POLYGON((1 1,3 1,\n3 3,1 3,1 1))\"\n",
+            square,
+        ),
     ];
     for (text, picture) in rows {
-        let mut shelf = SureShelf::new(alloc, files(alloc, "sq.csv", text)?);
-        let mut tray = SureTray::new(alloc, files(alloc, "", "")?);
-        let mut out = SureSink::new(Vec::new(alloc));
-        let end = play(alloc, FOUR, &mut shelf, &mut tray, &mut out);
-        assert_eq!(rt; end, End::Done, "{text}");
-        assert_eq!(rt; out.bytes(), b"image 4 4\n".as_slice(), "{text}");
+        let ran = run_surely(alloc, FOUR, "sq.csv", text.as_bytes())?;
+        assert_eq!(rt; ran.end, End::Done, "{text}");
+        assert_eq!(rt; ran.out.bytes(), b"image 4 4\n".as_slice(), "{text}");
         let want = pixmap(alloc, picture, "4 4")?;
-        assert_eq!(rt; bytes_of(tray.files(), "sq.ppm"), want.as_slice(), "{text}");
+        assert_eq!(rt; ran.picture(), want.as_slice(), "{text}");
     }
     Ok(())
 }
 
 #[test]
-fn text_in_another_form_is_bad_data(rt: HostRuntime) -> Result<(), Fail> {
+fn bytes_that_spell_no_features_are_refused(rt: HostRuntime) -> Result<(), Fail> {
     let alloc = rt.alloc();
-    let rows = [
-        "",
-        "wkt",
-        "WKT\n",
-        "wkt\n\"POINT(1 2)\"\n",
-        "wkt\n\"POLYGON((1 1,3 1,3 3,1 3,1 1))\"",
-        "wkt\r\n\"POLYGON((1 1,3 1,3 3))\"\r\n",
-        "wkt\nPOLYGON((1 1,3 1,3 3))\n",
-        "wkt\n\"POLYGON((1 1,3 1,3 3))\"\n\n",
-        "wkt\n\"POLYGON((1 1,3 1,3 3)\"\n",
-        "wkt\n\"POLYGON((1 1,3 1,1234567890 3))\"\n",
-        "wkt\n\"POLYGON((1 1,3 1,3 0.1234567))\"\n",
+    let rows: [(&[u8], TextError); 11] = [
+        (b"", TextError::NoHeader),
+        (b"\n\r\n", TextError::NoHeader),
+        (b"id", TextError::NoGeometryColumn),
+        (b"WKT\n\"POINT(1 2)\"\n", TextError::NoGeometryColumn),
+        (b"wkt;a\nPOINT(1 2);3\n", TextError::NoGeometryColumn),
+        (b"wkt,a\nPOINT(1 2)\n", TextError::Uneven(1)),
+        (b"wkt\nPOLYGON((1 1,3 1,3 3))\n", TextError::Uneven(1)),
+        (b"wkt,a\nPOINT(1 2),3\n,\n,,\n,\xff\n", TextError::Uneven(3)),
+        (b"wkt,\xff\n", TextError::NotUtf8(0)),
+        (b"wkt,a\n\n,\n,\xff\n,,\n", TextError::NotUtf8(2)),
+        (b"id,\xff\n", TextError::NotUtf8(0)),
     ];
-    for text in rows {
-        let mut shelf = SureShelf::new(alloc, files(alloc, "sq.csv", text)?);
-        let mut tray = SureTray::new(alloc, files(alloc, "sq.ppm", "old")?);
-        let mut out = SureSink::new(Vec::new(alloc));
-        let end = play(alloc, FOUR, &mut shelf, &mut tray, &mut out);
-        assert_eq!(rt; end, End::BadData(0, DataError::NotBuilt), "{text}");
-        assert_eq!(rt;
-            bytes_of(tray.files(), "sq.ppm"),
-            b"old".as_slice(),
-            "{text}"
-        );
-        assert_eq!(rt; out.bytes(), b"".as_slice(), "{text}");
+    for (bytes, error) in rows {
+        let ran = run_surely(alloc, FOUR, "sq.csv", bytes)?;
+        assert_eq!(rt; ran.end, End::BadData(0, DataError::Text(error)));
+        assert_eq!(rt; ran.picture(), b"old".as_slice(), "{}", ran.end);
+        assert_eq!(rt; ran.out.bytes(), b"".as_slice(), "{}", ran.end);
+    }
+    Ok(())
+}
+
+#[test]
+fn a_file_is_missing_only_where_it_is_absent(rt: HostRuntime) -> Result<(), Fail> {
+    let alloc = rt.alloc();
+    let missing = End::Missing(Which::Layer(0));
+    let rows = [
+        ("", missing),
+        ("sq.ppm", missing),
+        ("Sq.csv", missing),
+        ("sq.csv", End::Done),
+    ];
+    for (name, want) in rows {
+        let ran = run_surely(alloc, FOUR, name, SQUARE.as_bytes())?;
+        assert_eq!(rt; ran.end, want, "{name}");
     }
     Ok(())
 }
@@ -192,12 +257,12 @@ fn each_device_fails_in_turn(rt: HostRuntime) -> Result<(), Fail> {
     for (name, read, write, print, piece, room, end, kept, printed) in rows {
         let mut shelf = MemShelf::new(
             alloc,
-            files(alloc, name, SQUARE)?,
+            files(alloc, name, SQUARE.as_bytes())?,
             Vec::from_slice(alloc, &[read])?,
         );
         let mut tray = MemTray::new(
             alloc,
-            files(alloc, "sq.ppm", "old")?,
+            files(alloc, "sq.ppm", b"old")?,
             Vec::from_slice(alloc, &[write])?,
         );
         let mut out = MemSink::new(Vec::new(alloc), Vec::from_slice(alloc, &[print])?).with_limits(
@@ -241,12 +306,9 @@ fn words_that_are_no_form_are_usage(rt: HostRuntime) -> Result<(), Fail> {
         "quick sq.csv sq.ppm 4 4 0 0 4 4 +f0000",
     ];
     for line in rows {
-        let mut shelf = SureShelf::new(alloc, files(alloc, "sq.csv", SQUARE)?);
-        let mut tray = SureTray::new(alloc, files(alloc, "", "")?);
-        let mut out = SureSink::new(Vec::new(alloc));
-        let end = play(alloc, line, &mut shelf, &mut tray, &mut out);
-        assert_eq!(rt; end, End::Usage, "{line}");
-        assert_eq!(rt; shelf.asked().len(), 0, "{line}");
+        let ran = run_surely(alloc, line, "sq.csv", SQUARE.as_bytes())?;
+        assert_eq!(rt; ran.end, End::Usage, "{line}");
+        assert_eq!(rt; ran.shelf.asked().len(), 0, "{line}");
     }
     Ok(())
 }
@@ -295,37 +357,10 @@ fn forms_of_words_give_their_view_and_fill(rt: HostRuntime) -> Result<(), Fail> 
         ),
     ];
     for (line, size, rows) in rows {
-        let mut shelf = SureShelf::new(alloc, files(alloc, "sq.csv", SQUARE)?);
-        let mut tray = SureTray::new(alloc, files(alloc, "", "")?);
-        let mut out = SureSink::new(Vec::new(alloc));
-        let end = play(alloc, line, &mut shelf, &mut tray, &mut out);
-        assert_eq!(rt; end, End::Done, "{line}");
+        let ran = run_surely(alloc, line, "sq.csv", SQUARE.as_bytes())?;
+        assert_eq!(rt; ran.end, End::Done, "{line}");
         let want = pixmap(alloc, rows, size)?;
-        assert_eq!(rt; bytes_of(tray.files(), "sq.ppm"), want.as_slice(), "{line}");
-    }
-    Ok(())
-}
-
-#[test]
-fn ends_have_their_texts_and_statuses(rt: HostRuntime) -> Result<(), Fail> {
-    let alloc = rt.alloc();
-    let rows = [
-        (End::Done, 0, ""),
-        (End::NoMemory, 1, "out of memory"),
-        (End::Usage, 2, "usage"),
-        (
-            End::BadData(3, DataError::NotBuilt),
-            4,
-            "bad data in layer 3",
-        ),
-        (End::ReadFault(Which::Layer(0)), 6, "read fault"),
-        (End::WriteFault(Which::Text), 7, "write fault"),
-        (End::Missing(Which::Layer(0)), 8, "file missing"),
-    ];
-    for (end, status, text) in rows {
-        assert_eq!(rt; end.status(), status, "{text}");
-        let printed = format!(in alloc; "{end}")?;
-        assert_eq!(rt; printed.as_str(), text);
+        assert_eq!(rt; ran.picture(), want.as_slice(), "{line}");
     }
     Ok(())
 }

@@ -2,8 +2,9 @@
 
 ghost use Rattle.std.specs.Prelude.{◌≡◌, ◌↔◌, ⊤, ℕ, List, None, IsTrue};
 ghost use Rattle.cv_outside.specs.Counts.{Rose};
+ghost use Rattle.cv_top.specs.declared.ends.DataError.{DataError};
 ghost use Rattle.cv_top.specs.Words.{QuickOrder, IsQuick, IsNoForm};
-ghost use Rattle.cv_top.specs.Runs.{IsInForm, IsNotInForm, IsPictureOf, image_line, HasCause, AsksFor, FileWas, FilesStay, OutputIs, Prints, IsDone, IsRefused, IsMissing};
+ghost use Rattle.cv_top.specs.Runs.{IsInForm, IsRefusedAs, IsPictureOf, image_line, HasCause, AsksFor, FileWas, FilesStay, OutputIs, Prints, IsDone, IsRefused, IsMissing};
 
 use crate::ends::End;
 use crate::quick::quick;
@@ -16,8 +17,9 @@ use std::thread::Threads;
 
 /// Runs the command that the words name, the program's own name not among them, on one thread.
 ///
-/// `quick <csv> <out> <w> <h> <xmin> <ymin> <xmax> <ymax> <rrggbb>` reads the delimited text, paints its polygons with
-/// the fill over white at the view of the extent, writes the picture as a pixmap, and prints `image w h`.
+/// `quick <csv> <out> <w> <h> <xmin> <ymin> <xmax> <ymax> <rrggbb>` reads the delimited text, whose column `wkt` has the
+/// geometries in well-known text, paints their polygons with the fill over white at the view of the extent, writes the
+/// picture as a pixmap, and prints `image w h`.
 /// The clauses speak of files, names and bytes where the device tells them.
 pub fn run_once<F: Shelf, T: Tray, O: Sink>(
     alloc: Global,
@@ -55,9 +57,9 @@ pub fn run_once<F: Shelf, T: Tray, O: Sink>(
         → IsInForm (F.file_at shelf.old order.csv) → ¬ Rose (F.faults shelf.old) (F.faults shelf.new)
         → ¬ Rose (T.faults tray.old) (T.faults tray.new) → ¬ Rose (O.faults out.old) (O.faults out.new)
         → IsDone result }
-    ensures refused { (order : QuickOrder) → IsQuick words.now order → IsTrue (F.tells shelf.old)
-        → IsNotInForm (F.file_at shelf.old order.csv) → ¬ Rose (F.faults shelf.old) (F.faults shelf.new)
-        → IsRefused result }
+    ensures refused { (order : QuickOrder) → IsQuick words.now order → (e : DataError)
+        → IsTrue (F.tells shelf.old) → IsRefusedAs (F.file_at shelf.old order.csv) e
+        → ¬ Rose (F.faults shelf.old) (F.faults shelf.new) → IsRefused result e }
     ensures missing { (order : QuickOrder) → IsQuick words.now order → IsTrue (F.tells shelf.old)
         → F.file_at shelf.old order.csv ≡ None → ¬ Rose (F.faults shelf.old) (F.faults shelf.new)
         → IsMissing result }
@@ -110,9 +112,9 @@ pub fn run<R: Threads + Wait + Sync, F: Shelf, T: Tray + Send, O: Sink, G: Gate 
         → IsInForm (F.file_at shelf.old order.csv) → ¬ Rose (F.faults shelf.old) (F.faults shelf.new)
         → ¬ Rose (T.faults tray.old) (T.faults tray.new) → ¬ Rose (O.faults out.old) (O.faults out.new)
         → IsDone result }
-    ensures refused { (order : QuickOrder) → IsQuick words.now order → IsTrue (F.tells shelf.old)
-        → IsNotInForm (F.file_at shelf.old order.csv) → ¬ Rose (F.faults shelf.old) (F.faults shelf.new)
-        → IsRefused result }
+    ensures refused { (order : QuickOrder) → IsQuick words.now order → (e : DataError)
+        → IsTrue (F.tells shelf.old) → IsRefusedAs (F.file_at shelf.old order.csv) e
+        → ¬ Rose (F.faults shelf.old) (F.faults shelf.new) → IsRefused result e }
     ensures missing { (order : QuickOrder) → IsQuick words.now order → IsTrue (F.tells shelf.old)
         → F.file_at shelf.old order.csv ≡ None → ¬ Rose (F.faults shelf.old) (F.faults shelf.new)
         → IsMissing result }

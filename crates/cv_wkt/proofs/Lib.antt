@@ -1,17 +1,3 @@
--- how a front is found, and digits are counted, byte by byte
-pub mod ReadingLemmas
--- what one point adds to the rings read so far
-pub mod RingLemmas
--- the text of a polygon, from one point to the next
-pub mod Bodies
--- what is read is spelled so
-pub mod ReadIsSpelled
--- what is spelled so is read
-pub mod SpelledIsRead
--- both laws for a whole text
-pub mod Laws
--- the bytes that stand in no plain polygon
-pub mod PlainBytes
 -- what may still come behind each state, and that the machine reads just that
 pub mod Comings
 -- what a tree adds is its geometry

@@ -1,6 +1,4 @@
--- The grammar of the plain form, and what the code reads of a text; and all well-known text.
-pub mod PlainForm
-pub mod Reading
+-- Well-known text: its tokens, its grammar, the machine that reads it, and where it is refused.
 pub mod Kinds
 pub mod Grammar
 pub mod Machine

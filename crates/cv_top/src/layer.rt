@@ -1,0 +1,48 @@
+//! What the file of a layer says.
+
+ghost use Rattle.std.specs.Prelude.{◌≡◌, ◌≤◌, length, codes, IfOk};
+ghost use Rattle.cv_top.specs.Opened.{most_bytes, quick_options, layer_of};
+
+use crate::ends::DataError;
+use cv_dtext::{TextError, TextOptions};
+use cv_model::{Delimiter, FeatureList, NoMemory, Room, Text};
+use std::alloc::{AllocError, Global};
+
+/// The most bytes of a file.
+pub(crate) const MOST_BYTES: u64 = 268_435_456;
+
+/// How much is read of a file.
+const ROOM: Room = Room {
+    features: 1_000_000,
+    vertices: 4_000_000,
+    values: 16_000_000,
+};
+
+/// How a delimited text is read.
+fn quick_options(alloc: Global) -> Result<TextOptions, NoMemory>
+    ensures { IfOk result (λ options. options ≡ quick_options) }
+{
+    let geometry = Text::of(alloc, "wkt")?;
+    Ok(TextOptions {
+        delimiter: Delimiter::Comma,
+        geometry,
+        room: ROOM,
+    })
+}
+
+/// The features that the bytes spell, or why the bytes are refused.
+#[tactic(auto, unfolding(crate::specs::Opened::layer_of))]
+pub(crate) fn read_layer(
+    alloc: Global,
+    bytes: &[u8],
+) -> Result<Result<FeatureList, DataError>, NoMemory>
+    requires { length bytes.now ≤ most_bytes }
+    ensures { IfOk result (λ layer. layer ≡ layer_of bytes.now) }
+{
+    let options = quick_options(alloc)?;
+    match cv_dtext::read(alloc, bytes, &options) {
+        Ok(features) => Ok(Ok(features)),
+        Err(TextError::NoMemory) => Err(AllocError),
+        Err(error) => Ok(Err(DataError::Text(error))),
+    }
+}
