@@ -4,7 +4,6 @@ ghost use Rattle.std.specs.Prelude.{◌≡◌};
 ghost use Rattle.cv_top.specs.Ends.{status_of};
 
 use cv_dtext::TextError;
-use std::fmt;
 use thiserror::Error;
 
 /// The file or the text that an end speaks of.
@@ -27,36 +26,6 @@ pub enum DataError {
     TooLong,
 }
 
-impl fmt::Display for DataError {
-    fn fmt<W: fmt::Write>(&self, f: &mut fmt::Formatter<W>) -> fmt::Result {
-        match self {
-            DataError::Text(TextError::NoHeader) => write!(f, "there is no header"),
-            DataError::Text(TextError::NoGeometryColumn) => {
-                write!(f, "the header has no column of the geometry's name")
-            }
-            DataError::Text(TextError::Uneven(n)) => {
-                write!(f, "record {n} has another number of fields than the header")
-            }
-            DataError::Text(TextError::NotUtf8(0)) => {
-                write!(f, "the header has a field that is not UTF-8")
-            }
-            DataError::Text(TextError::NotUtf8(n)) => {
-                write!(f, "record {n} has a field that is not UTF-8")
-            }
-            DataError::Text(TextError::TooMany) => {
-                write!(
-                    f,
-                    "more features, vertices or values than there is room for"
-                )
-            }
-            DataError::Text(TextError::NoMemory) => write!(f, "out of memory"),
-            DataError::TooLong => write!(f, "the file has more than 268435456 bytes"),
-        }
-    }
-}
-
-impl std::error::Error for DataError {}
-
 /// How a command ended. Its text is what a program writes on standard error.
 #[derive(Clone, Copy, Debug, PartialEq, Eq, Error)]
 pub enum End {
@@ -70,7 +39,7 @@ pub enum End {
     #[error("usage")]
     Usage,
     /// The bytes of the layer at this place, from 0, were refused.
-    #[error("bad data in layer {0}: {1}")]
+    #[error("bad data in layer {0}")]
     BadData(u32, DataError),
     /// A read failed.
     #[error("read fault")]
@@ -115,7 +84,7 @@ mod tests {
             (
                 End::BadData(3, DataError::Text(TextError::NoHeader)),
                 4,
-                "bad data in layer 3: there is no header",
+                "bad data in layer 3",
             ),
             (End::ReadFault(Which::Layer(0)), 6, "read fault"),
             (End::WriteFault(Which::Text), 7, "write fault"),
@@ -126,42 +95,6 @@ mod tests {
             let printed = format!(in alloc; "{end}")?;
             assert_eq!(rt; printed.as_str(), text);
         }
-        Ok(())
-    }
-
-    #[test]
-    fn refusals_have_their_texts(rt: HostRuntime) -> Result<(), Fail> {
-        let alloc = rt.alloc();
-        let rows = [
-            (
-                TextError::NoGeometryColumn,
-                "the header has no column of the geometry's name",
-            ),
-            (
-                TextError::Uneven(3),
-                "record 3 has another number of fields than the header",
-            ),
-            (
-                TextError::NotUtf8(0),
-                "the header has a field that is not UTF-8",
-            ),
-            (
-                TextError::NotUtf8(12),
-                "record 12 has a field that is not UTF-8",
-            ),
-            (
-                TextError::TooMany,
-                "more features, vertices or values than there is room for",
-            ),
-        ];
-        for (error, text) in rows {
-            let refused = DataError::Text(error);
-            let printed = format!(in alloc; "{refused}")?;
-            assert_eq!(rt; printed.as_str(), text);
-        }
-        let refused = DataError::TooLong;
-        let printed = format!(in alloc; "{refused}")?;
-        assert_eq!(rt; printed.as_str(), "the file has more than 268435456 bytes");
         Ok(())
     }
 }

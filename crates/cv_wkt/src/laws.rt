@@ -12,5 +12,4 @@ use cv_model::WktError;
 pub fn answers_are_spelt()
     ensures found { (text : List ℕ) (g : GeometryLists) → (geometry_of text ≡ Ok g) ↔ IsGeometry text g }
     ensures fault { (text : List ℕ) (e : WktError) → (geometry_of text ≡ Err e) ↔ IsRefusal text e }
-{
-}
+{}

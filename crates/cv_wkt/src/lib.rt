@@ -12,6 +12,7 @@ ghost use Rattle.cv_wkt.specs.Leftmost.{IsGeometry, IsRefusal};
 ghost use Rattle.cv_wkt.specs.Refusals.{geometry_of};
 
 mod kind;
+pub mod laws;
 mod pieces;
 mod place;
 mod reader;
