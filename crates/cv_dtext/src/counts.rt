@@ -33,7 +33,8 @@ impl Counts {
         values: u64,
         room: &Room,
     ) -> Result<Counts, TextError>
-        ensures ok { IfOk result (λ new. (new.vertices ≡ self.vertices + vertices) × (new.values ≡ self.values + values)
+        ensures ok { IfOk result (λ new.
+            (new.vertices ≡ self.vertices + vertices) × (new.values ≡ self.values + values)
             × (new.vertices ≤ 4294967295) × (is_past room.now number new.vertices new.values ≡ false)) }
         ensures err { IfErr result (λ e. (e ≡ TextError.TooMany)
             × (is_past room.now number (self.vertices + vertices) (self.values + values) ≡ true)) }

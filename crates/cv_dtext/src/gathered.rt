@@ -59,7 +59,8 @@ impl Gathered {
         room: &Room,
     ) -> Result<(), TextError>
         requires { place < length (fields_of row.now) }
-        ensures { IsAdded room.now number (with_record place number (fields_of row.now) self.old) self.new result }
+        ensures { IsAdded room.now number
+            (with_record place number (fields_of row.now) self.old) self.new result }
     {
         let Ok(cell) = read_cell(alloc, bytes_at(row, place)) else {
             return Err(TextError::NoMemory);

@@ -1,8 +1,10 @@
 //! The reader of delimited text with a column of well-known text.
 //!
-//! Contract: the features and notes are those of the records, and of the records that are refused the first decides.
-//! Definitions: `Records`, which cites those of the crate `csv`; `Cells`, over the grammar of `cv_wkt`; `Tables`, the
-//! features of records; `Refusals`, the answer to them. `Reading` is what the parts of the code say to each other.
+//! Contract: the features and notes are those of the records, and of the records that are refused the first
+//! decides.
+//! Definitions: `Records`, which cites those of the crate `csv`; `Cells`, over the grammar of `cv_wkt`;
+//! `Tables`, the features of records; `Refusals`, the answer to them, and why there is none. `Reading` is what the
+//! parts of the code say to each other.
 //! Memory is taken for what is read and for one record at a time; no handle is needed.
 #![tactic(auto)]
 

@@ -133,10 +133,6 @@ fn polygons_are_painted_at_their_centres(rt: HostRuntime) -> Result<(), Fail> {
             holed,
         ),
         (
-            "wkt\n\"POLYGON((0 0,4 0,4 4,0 4),(0 1,2 1,2 2,0 2))\"\n",
-            holed,
-        ),
-        (
             "wkt\n\"POLYGON((0 3,4 3,0 4))\"\n\"POLYGON((-0.5 -1,2 -1,2 1,-0.5 1))\"\n",
             "##../..../..../##..",
         ),
@@ -160,10 +156,6 @@ fn polygons_are_painted_at_their_centres(rt: HostRuntime) -> Result<(), Fail> {
         ),
         (
             "wkt,wkt\n\"POLYGON((1 1,3 1,3 3,1 3))\",POINT(1 2)\n",
-            square,
-        ),
-        (
-            "name,wkt\n\"a, \"\"b\"\"\",\"POLYGON((1 1,3 1,3 3,1 3))\"\n",
             square,
         ),
         // lines end in other ways
