@@ -3,8 +3,8 @@
 //! Contract: the features and notes are those of the records, and of the records that are refused the first
 //! decides.
 //! Definitions: `Records`, which cites those of the crate `csv`; `Cells`, over the grammar of `cv_wkt`;
-//! `Tables`, the features of records; `Refusals`, the answer to them, and why there is none. `Reading` is what the
-//! parts of the code say to each other.
+//! `Tables`, the features of records; `Refusals`, the answer to them. `Reading` is what the parts of the code
+//! say to each other.
 //! Memory is taken for what is read and for one record at a time; no handle is needed.
 #![tactic(auto)]
 
@@ -27,19 +27,20 @@ use std::alloc::Global;
 
 /// The features of a delimited text, or why it is refused.
 ///
-/// The first record is the header, and each other one a feature, whose id is the record's number. Its geometry is what
-/// the cell under the geometry's column says in well-known text; an empty or white cell says nothing, and a cell that
-/// is refused gives a note. The first record that shows a cause of refusal decides.
+/// The first record is the header, and each other one a feature, whose id is the record's number. Its geometry
+/// is what the cell under the geometry's column says in well-known text; an empty or white cell says nothing,
+/// and a cell that is refused gives a note. The first record that shows a cause of refusal decides.
 /// Source: RFC 4180 as the crate `csv` reads it, without trimming; well-known text of OGC 06-103r4.
 pub fn read(alloc: Global, bytes: &[u8], options: &TextOptions) -> Result<FeatureList, TextError>
     requires { length bytes.now ≤ 268435456 }
     // The records have a header with the geometry's column, none shows a cause, and the table is theirs.
     ensures found { IfOk result (IsRead options.now bytes.now) }
-    ensures only { (table : FeatureTable) → IsRead options.now bytes.now table → (result ≢ Err TextError.NoMemory)
-        → result ≡ Ok table }
+    ensures only { (table : FeatureTable) → IsRead options.now bytes.now table
+        → (result ≢ Err TextError.NoMemory) → result ≡ Ok table }
 
     // There is no record, or the first that shows a cause shows this one.
-    ensures fault { (e : TextError) → (result ≢ Err TextError.NoMemory) → (result ≡ Err e) ↔ IsRefused options.now bytes.now e }
+    ensures fault { (e : TextError) → (result ≢ Err TextError.NoMemory)
+        → (result ≡ Err e) ↔ IsRefused options.now bytes.now e }
 
     // The same as a function.
     ensures exact { (result ≢ Err TextError.NoMemory) → result ≡ features_of options.now bytes.now }
