@@ -27,13 +27,13 @@ use std::alloc::Global;
 
 /// The features of a delimited text, or why it is refused.
 ///
-/// The first record is the header, and each other one a feature, whose id is the record's number. Its geometry
-/// is what the cell under the geometry's column says in well-known text; an empty or white cell says nothing,
-/// and a cell that is refused gives a note. The first record that shows a cause of refusal decides.
+/// The first record is the header, and each other one a feature, whose id is the record's number. Its
+/// geometry is what the cell under the geometry's column says in well-known text; an empty or white cell says
+/// nothing, and a cell that is refused gives a note. The first record that shows a cause of refusal decides.
 /// Source: RFC 4180 as the crate `csv` reads it, without trimming; well-known text of OGC 06-103r4.
 pub fn read(alloc: Global, bytes: &[u8], options: &TextOptions) -> Result<FeatureList, TextError>
     requires { length bytes.now ≤ 268435456 }
-    // The records have a header with the geometry's column, none shows a cause, and the table is theirs.
+    // There is a header with the geometry's column, no record shows a cause, and the table is theirs.
     ensures found { IfOk result (IsRead options.now bytes.now) }
     ensures only { (table : FeatureTable) → IsRead options.now bytes.now table
         → (result ≢ Err TextError.NoMemory) → result ≡ Ok table }

@@ -24,10 +24,13 @@ pub fn gather(
     requires expects { reader.old.expected ≡ Some (length (fields_of header.now)) }
     requires within { place < length (fields_of header.now) }
     requires short { length (unread (λ r. Some r.now) reader.old) ≤ 268435456 }
-    ensures ok { IfOk result (λ g. answer_behind options.now.room place (fields_of header.now) []
-        (rows_left (λ r. Some r.now) options.now.delimiter reader.old) ≡ Ok (tabled place (fields_of header.now) g)) }
+    ensures ok { IfOk result (λ g.
+        answer_behind options.now.room place (fields_of header.now) []
+        (rows_left (λ r. Some r.now) options.now.delimiter reader.old)
+        ≡ Ok (tabled place (fields_of header.now) g)) }
     ensures table { IfOk result (λ g. IsFeatureTable (tabled place (fields_of header.now) g)) }
-    ensures err { IfErr result (λ e. e ≢ TextError.NoMemory → answer_behind options.now.room place (fields_of header.now) []
+    ensures err { IfErr result (λ e. e ≢ TextError.NoMemory →
+        answer_behind options.now.room place (fields_of header.now) []
         (rows_left (λ r. Some r.now) options.now.delimiter reader.old) ≡ Err e) }
 {
     let mut gathered = Gathered::new(alloc);

@@ -18,7 +18,8 @@ pub fn read_table(
 ) -> Result<FeatureList, TextError>
     requires { length bytes.now ≤ 268435456 }
     ensures ok { IfOk result (λ table. features_of options.now bytes.now ≡ Ok table) }
-    ensures err { IfErr result (λ e. e ≢ TextError.NoMemory → features_of options.now bytes.now ≡ Err e) }
+    ensures err { IfErr result (λ e. e ≢ TextError.NoMemory
+        → features_of options.now bytes.now ≡ Err e) }
 {
     let mut reader = records(alloc, bytes, options.delimiter);
     let next = match next_texts(alloc, &mut reader, 0) {

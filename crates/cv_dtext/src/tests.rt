@@ -1,4 +1,4 @@
-//! What no clause says: worked texts, the limits of room at their edges, and memory enough for each call that takes some.
+//! What no clause says: worked texts, the limits of room at their edges, and that memory suffices.
 use crate::{TextError, TextOptions, read};
 use cv_model::{Delimiter, FeatureList, Geometry, NoMemory, Room, Text};
 use std::alloc::Global;
@@ -22,7 +22,7 @@ fn parts(alloc: Global, geometry: Option<&Geometry>) -> Result<String, Fail> {
     Ok(text)
 }
 
-/// Columns each with a bar behind it; for each feature a space, its id, its parts and its values; then the notes.
+/// Columns with a bar behind each; for each feature a space, its id, its parts, its values; then the notes.
 fn summary(alloc: Global, table: &FeatureList) -> Result<String, Fail> {
     let mut text = String::new(alloc);
     for column in table.columns() {
