@@ -37,51 +37,38 @@ impl Kept {
         }
     }
 
-    fn with_digit(self, digit: u8) -> Kept
-        requires dropped { self.dropped < 2 ^ 63 }
-        ensures { result ≡ with_digit digit self }
+    fn push_digit(&mut self, digit: u8)
+        requires dropped { self.old.dropped < 2 ^ 63 }
+        ensures { self.new ≡ with_digit digit self.old }
     {
         if self.digits < 100_000_000_000_000_000 {
-            Kept {
-                digits: 10 * self.digits + u64::from(digit),
-                ..self
-            }
+            self.digits = 10 * self.digits + u64::from(digit);
         } else {
-            Kept {
-                dropped: self.dropped + 1,
-                ..self
-            }
+            self.dropped += 1;
         }
     }
 
-    /// With what a mark says.
-    pub fn with(self, role: Role) -> Kept
-        requires dropped { self.dropped < 2 ^ 63 }
-        requires places { self.places < 2 ^ 63 }
-        ensures { result ≡ kept_role role self }
+    /// Keeps what a mark says. In place, since a copy for each byte would take most of a reader's time.
+    pub fn keep(&mut self, role: Role)
+        requires dropped { self.old.dropped < 2 ^ 63 }
+        requires places { self.old.places < 2 ^ 63 }
+        ensures { self.new ≡ kept_role role self.old }
     {
         match role {
-            Role::Form => self,
-            Role::Negative => Kept {
-                negative: true,
-                ..self
-            },
-            Role::WholeDigit(digit) => self.with_digit(digit),
-            Role::RestDigit(digit) => Kept {
-                places: self.places + 1,
-                ..self.with_digit(digit)
-            },
-            Role::Lowering => Kept {
-                lowers: true,
-                ..self
-            },
-            Role::PowerDigit(digit) => Kept {
-                power: self
+            Role::Form => {}
+            Role::Negative => self.negative = true,
+            Role::WholeDigit(digit) => self.push_digit(digit),
+            Role::RestDigit(digit) => {
+                self.push_digit(digit);
+                self.places += 1;
+            }
+            Role::Lowering => self.lowers = true,
+            Role::PowerDigit(digit) => {
+                self.power = self
                     .power
                     .saturating_mul(10)
-                    .saturating_add(u64::from(digit)),
-                ..self
-            },
+                    .saturating_add(u64::from(digit));
+            }
         }
     }
 

@@ -18,7 +18,7 @@ pub fn scan(text: &[u8]) -> Result<Fixed, u64>
         match place.next(Mark::of(*byte)) {
             Some(found) => {
                 place = found.0;
-                kept = kept.with(found.1);
+                kept.keep(found.1);
             }
             None => return Err(at as u64),
         }
