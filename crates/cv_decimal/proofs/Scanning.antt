@@ -1,14 +1,14 @@
 -- The loop over the bytes of a decimal, and what its answer says.
-use Rattle.std.proofs.Common.{◌≡◌, ℕ, ◌<◌, ◌≤◌, List, drop, length, sym, ap, subst}
+use Rattle.std.proofs.Common.{◌≡◌, ℕ, ◌<◌, ◌≤◌, List, length, sym, ap, subst}
 use Rattle.std.specs.Result.{result_ok}
-use Rattle.cv_reading.specs.Machines.{run, further_by}
+use Rattle.cv_reading.specs.Machines.{run}
 use Rattle.cv_reading.specs.Readings.{IsReading}
 use Rattle.cv_decimal.specs.declared.kept.Kept.{Kept}
 use Rattle.cv_decimal.specs.declared.place.Place.{Place}
 use Rattle.cv_decimal.specs.declared.place.Place.TheVariants.{Start}
 use Rattle.cv_decimal.specs.Spellings.{Spells}
 use Rattle.cv_decimal.specs.Reader.{decimal_of}
-use Rattle.cv_decimal.specs.Keeping.{keeping_reader, nothing_kept}
+use Rattle.cv_decimal.specs.Keeping.{keeping_reader, nothing_kept, Goes}
 use Rattle.cv_decimal.proofs.Values.{decimal_reads}
 use Rattle.cv_decimal.proofs.Keepings.{keeping_is}
 
@@ -17,7 +17,7 @@ pub record Along (text : List ℕ) (place : Place) (kept : Kept) (i : ℕ) : Typ
   pub digits : kept.digits < 2000000000000000000
   pub dropped : kept.dropped ≤ i
   pub places : kept.places ≤ i
-  pub same : run keeping_reader text (record { place = Start; parts = nothing_kept }) ≡ further_by i (run keeping_reader (drop i text) (record { place = place; parts = kept }))
+  pub same : Goes text Start nothing_kept i place kept
 
 -- the loop's answer is the value of the text, or its first wrong place
 pub keeping_reads : (text : List ℕ) → length text < 9223372036854775808 → IsReading Spells text (run keeping_reader text (record { place = Start; parts = nothing_kept }))

@@ -1,8 +1,9 @@
 -- What is kept of the numbers while they are read: 18 digits, two counts, and an exponent up to 2^64 - 1.
-use Rattle.std.specs.Prelude.{ℕ, ◌+◌, ◌-◌, ◌*◌, ◌^◌, min, true, false, nat_lt, nat_le, ◌==◌, if◌then◌else◌}
+use Rattle.std.specs.Prelude.{◌≡◌, ℕ, List, drop, ◌+◌, ◌-◌, ◌*◌, ◌^◌, min, true, false, nat_lt, nat_le, ◌==◌, if◌then◌else◌}
 use Rattle.cv_model.specs.Rounding.{rnd}
-use Rattle.cv_reading.specs.Machines.{Machine}
+use Rattle.cv_reading.specs.Machines.{Machine, run, further_by}
 use Rattle.cv_decimal.specs.declared.kept.Kept.{Kept}
+use Rattle.cv_decimal.specs.declared.place.Place.{Place}
 use Rattle.cv_decimal.specs.declared.place.Role.{Role}
 use Rattle.cv_decimal.specs.declared.place.Role.TheVariants.{Form, Negative, WholeDigit, RestDigit, Lowering, PowerDigit}
 use Rattle.cv_decimal.specs.declared.fixed.Fixed.{Fixed}
@@ -44,3 +45,12 @@ nothing_kept = record { negative = false; digits = 0; dropped = 0; places = 0; l
 
 abbrev pub keeping_reader : Machine (At Kept) ℕ Fixed
 keeping_reader = going kept_role kept_worth
+
+-- so many more digits stand behind the point
+abbrev pub with_places : ℕ → Kept → Kept
+with_places n k = record k { places = k.places + n }
+
+-- the answer to a text at one place is that to the text behind its first n bytes at another
+abbrev pub Goes : List ℕ → Place → Kept → ℕ → Place → Kept → Type 0
+Goes text p k n q l =
+    run keeping_reader text (record { place = p; parts = k }) ≡ further_by n (run keeping_reader (drop n text) (record { place = q; parts = l }))

@@ -1,11 +1,12 @@
 //! What is kept of a decimal's numbers while it is read.
-ghost use Rattle.std.specs.Prelude.{◌≡◌, ◌*◌, ◌^◌, ◌<◌, min};
+ghost use Rattle.std.specs.Prelude.{◌≡◌, ◌+◌, ◌*◌, ◌^◌, ◌<◌, ◌≤◌, min, length};
 ghost use Rattle.cv_model.specs.Rounding.{rnd};
 ghost use Rattle.cv_decimal.specs.Spellings.{fixed};
-ghost use Rattle.cv_decimal.specs.Keeping.{with_digit, kept_role, settled, kept_worth, nothing_kept};
+ghost use Rattle.cv_decimal.specs.Keeping.{with_digit, with_places, kept_role, settled, kept_worth, nothing_kept, Goes};
 
 use crate::fixed::Fixed;
-use crate::place::Role;
+use crate::mark::Mark;
+use crate::place::{Place, Role};
 
 /// The largest value, 10^15 millionths.
 const LIMIT: u64 = 1_000_000_000_000_000;
@@ -37,6 +38,17 @@ impl Kept {
         }
     }
 
+    /// What is kept behind a minus.
+    pub fn negative() -> Kept
+        ensures { result ≡ kept_role Role.Negative nothing_kept }
+    {
+        Kept {
+            negative: true,
+            ..Kept::nothing()
+        }
+    }
+
+    #[inline]
     fn push_digit(&mut self, digit: u8)
         requires dropped { self.old.dropped < 2 ^ 63 }
         ensures { self.new ≡ with_digit digit self.old }
@@ -72,6 +84,36 @@ impl Kept {
         }
     }
 
+    /// Keeps the digits at the front of a text, and answers how many they are. On which side of the
+    /// point they stand is left to `point_before`.
+    pub fn keep_digits(&mut self, text: &[u8]) -> usize
+        requires few { self.old.digits < 2000000000000000000 }
+        requires short { self.old.dropped + length text.now < 2 ^ 63 }
+        ensures few { self.new.digits < 2000000000000000000 }
+        ensures dropped { self.new.dropped ≤ self.old.dropped + result }
+        ensures places { self.new.places ≡ self.old.places }
+        ensures within { result ≤ length text.now }
+        ensures start { 0 < result → Goes text.now Place.Start self.old result Place.Whole self.new }
+        ensures signed { 0 < result → Goes text.now Place.Signed self.old result Place.Whole self.new }
+        ensures rest { Goes text.now Place.Dotted self.old result Place.Dotted (with_places result self.new) }
+    {
+        for (at, byte) in text.iter().enumerate() {
+            match Mark::digit(*byte) {
+                Some(digit) => self.push_digit(digit),
+                None => return at,
+            }
+        }
+        text.len()
+    }
+
+    /// Says that so many more digits stand behind the point.
+    pub fn point_before(&mut self, digits: usize)
+        requires { self.old.places + digits < 2 ^ 63 }
+        ensures { self.new ≡ with_places digits self.old }
+    {
+        self.places += digits as u64;
+    }
+
     /// What the numbers are worth.
     pub fn worth(self) -> Fixed
         requires digits { self.digits < 2000000000000000000 }
@@ -102,7 +144,7 @@ fn millionths(digits: u64, high: u128, low: u128) -> u64
     } else if low >= high + 19 {
         0
     } else {
-        capped(divided(digits, (low - high) as u32))
+        capped(u128::from(divided(digits, (low - high) as u32)))
     }
 }
 
@@ -117,17 +159,18 @@ fn raised(digits: u64, power: u32) -> u128
     requires power { power < 16 }
     ensures { result ≡ digits * 10 ^ power }
 {
-    u128::from(digits) * 10u128.pow(power)
+    u128::from(digits) * u128::from(10u64.pow(power))
 }
 
 /// Rounds a half upwards.
-fn divided(digits: u64, power: u32) -> u128
+fn divided(digits: u64, power: u32) -> u64
     requires digits { digits < 2000000000000000000 }
     requires power { power < 19 }
     ensures { result ≡ rnd digits (10 ^ power) }
 {
-    let unit = 10u128.pow(power);
-    (2 * u128::from(digits) + unit) / (2 * unit)
+    let unit = 10u64.pow(power);
+    let halves = 2 * digits + unit;
+    halves / (2 * unit)
 }
 
 fn signed(negative: bool, millionths: u64) -> Fixed

@@ -3,7 +3,8 @@
 //! Contract: `read` answers the value that the grammar spells, all digits taken as one number and
 //! rounded half away from zero, and else the first byte that can't stand; `write` gives the written
 //! form, which `read` reads back. Definitions: `Spellings`, `Written`, and as a machine `Reader`.
-//! `read` takes no memory, goes over the text once and keeps 18 digits, whatever the lengths.
+//! `read` takes no memory, goes over a plain text once and over any other twice at most, and keeps 18
+//! digits, whatever the lengths.
 #![tactic(auto)]
 
 ghost use Rattle.std.specs.Prelude.{◌≡◌, ◌↔◌, ℕ, ℤ, [], IfOk, string_bytes};
@@ -17,6 +18,7 @@ mod fixed;
 mod kept;
 mod mark;
 mod place;
+mod plain;
 mod scan;
 mod written;
 

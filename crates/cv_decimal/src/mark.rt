@@ -1,5 +1,5 @@
 //! The marks that a decimal consists of.
-ghost use Rattle.std.specs.Prelude.{◌≡◌};
+ghost use Rattle.std.specs.Prelude.{◌≡◌, IfSome};
 ghost use Rattle.cv_decimal.specs.Marks.{mark_of};
 
 /// What a byte stands for in a decimal. Letters are read in any case.
@@ -29,6 +29,18 @@ impl Mark {
             b'n' | b'N' => Mark::LetterN,
             b'a' | b'A' => Mark::LetterA,
             _ => Mark::Other,
+        }
+    }
+
+    /// The digit that a byte stands for, where it is one: the same without a table.
+    #[inline]
+    pub fn digit(byte: u8) -> Option<u8>
+        ensures { IfSome result (λ d. mark_of byte ≡ Mark.Digit d) }
+    {
+        if byte.is_ascii_digit() {
+            Some(byte - b'0')
+        } else {
+            None
         }
     }
 }

@@ -7,9 +7,20 @@ use crate::fixed::Fixed;
 use crate::kept::Kept;
 use crate::mark::Mark;
 use crate::place::Place;
+use crate::plain::plain;
 
 /// The value of a text, or how many bytes stand before the first that can't.
 pub fn scan(text: &[u8]) -> Result<Fixed, u64>
+    ensures { result ≡ run keeping_reader text.now (record { place = Place.Start; parts = nothing_kept }) }
+{
+    match plain(text) {
+        Some(value) => Ok(value),
+        None => scan_any(text),
+    }
+}
+
+/// The same byte by byte, for any text.
+fn scan_any(text: &[u8]) -> Result<Fixed, u64>
     ensures { result ≡ run keeping_reader text.now (record { place = Place.Start; parts = nothing_kept }) }
 {
     let mut place = Place::Start;

@@ -1,6 +1,7 @@
 -- What the parts of the code say to each other: a reader between two records, one read, and what was gathered so far.
 -- The clauses of private functions cite it; public ones cite the answer to the whole text alone.
 use Rattle.std.specs.Prelude.{◌≡◌, ◌≢◌, ℕ, ◌+◌, Bool, true, false, List, [], ◌∷◌, ◌++◌, length, ◌<◌, ◌≤◌, All, Option, Some, None, IfSome, Result, Ok, Err}
+use Rattle.std.specs.Borrow.{Bor}
 use Rattle.std.specs.Option.{option_to_list, unwrap_or}
 use Rattle.csv.specs.Machine.{Read, ends_at_end, next_record}
 use Rattle.csv.specs.Reading.{Ready, source_of, records_from}
@@ -18,6 +19,10 @@ use Rattle.cv_dtext.specs.Records.{Fields, config_of}
 use Rattle.cv_dtext.specs.Cells.{note_on, vertices_in}
 use Rattle.cv_dtext.specs.Tables.{cell_at, others, feature_of, features_from, notes_from}
 use Rattle.cv_dtext.specs.Refusals.{are_texts, is_past, vertices_in_all, values_in_all, answer_behind}
+
+-- what is left of a slice of bytes that is read
+abbrev pub slice_left : Bor (List ℕ) → Option (List ℕ)
+slice_left bytes = Some bytes.now
 
 -- a reader that stands behind some records: the state of its machine, the bytes that are left, and how many fields the
 -- next record must have

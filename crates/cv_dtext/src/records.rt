@@ -4,7 +4,7 @@ ghost use Rattle.std.specs.Prelude.{◌≡◌, ◌≤◌, Option, List, ℕ, Som
 ghost use Rattle.csv.specs.declared.parser.State.{State};
 ghost use Rattle.cv_model.specs.declared.delimiter.Delimiter.{Delimiter};
 ghost use Rattle.cv_dtext.specs.Records.{delimiter_byte, records_of};
-ghost use Rattle.cv_dtext.specs.Reading.{Stands, IsNext, IsBetween, IsNextTexts, rows_left, unread};
+ghost use Rattle.cv_dtext.specs.Reading.{slice_left, Stands, IsNext, IsBetween, IsNextTexts, rows_left, unread};
 
 use crate::options::TextError;
 use csv::{ByteRecord, ErrorKind, Reader, ReaderBuilder, StringRecord};
@@ -23,10 +23,10 @@ fn delimiter_byte(delimiter: Delimiter) -> u8
 
 /// A reader of the records of these bytes, the header among them.
 pub fn records(alloc: Global, bytes: &[u8], delimiter: Delimiter) -> Reader<&[u8]>
-    ensures between { IsBetween (λ r. Some r.now) delimiter result }
+    ensures between { IsBetween slice_left delimiter result }
     ensures first { result.expected ≡ None }
-    ensures all { rows_left (λ r. Some r.now) delimiter result ≡ records_of delimiter bytes.now }
-    ensures short { length (unread (λ r. Some r.now) result) ≤ length bytes.now }
+    ensures all { rows_left slice_left delimiter result ≡ records_of delimiter bytes.now }
+    ensures short { length (unread slice_left result) ≤ length bytes.now }
 {
     ReaderBuilder::new()
         .delimiter(delimiter_byte(delimiter))
@@ -41,8 +41,8 @@ fn next_row(
     number: u32,
 ) -> Result<Option<ByteRecord>, TextError>
     ensures { (d : Delimiter) (s : State) (left : List ℕ) (width : Option ℕ)
-        → Stands (λ r. Some r.now) d reader.old s left width
-        → IsNext (λ r. Some r.now) d s left width number reader.new result }
+        → Stands slice_left d reader.old s left width
+        → IsNext slice_left d s left width number reader.new result }
 {
     let mut row = ByteRecord::new(alloc);
     match reader.read_byte_record(&mut row) {
@@ -61,8 +61,8 @@ pub fn next_texts(
     reader: &mut Reader<&[u8]>,
     number: u32,
 ) -> Result<Option<StringRecord>, TextError>
-    ensures { (d : Delimiter) → IsBetween (λ r. Some r.now) d reader.old
-        → IsNextTexts (λ r. Some r.now) d number reader.old reader.new result }
+    ensures { (d : Delimiter) → IsBetween slice_left d reader.old
+        → IsNextTexts slice_left d number reader.old reader.new result }
 {
     let next = match next_row(alloc, reader, number) {
         Ok(next) => next,

@@ -4,7 +4,7 @@ ghost use Rattle.std.specs.Prelude.{◌≡◌, ◌≢◌, ◌<◌, ◌≤◌, []
 ghost use Rattle.csv.specs.Records.{fields_of};
 ghost use Rattle.cv_model.specs.Features.{IsFeatureTable};
 ghost use Rattle.cv_dtext.specs.Refusals.{answer_behind};
-ghost use Rattle.cv_dtext.specs.Reading.{IsBetween, unread, rows_left, tabled};
+ghost use Rattle.cv_dtext.specs.Reading.{slice_left, IsBetween, unread, rows_left, tabled};
 
 use crate::gathered::Gathered;
 use crate::options::{TextError, TextOptions};
@@ -20,18 +20,18 @@ pub fn gather(
     place: usize,
     options: &TextOptions,
 ) -> Result<Gathered, TextError>
-    requires between { IsBetween (λ r. Some r.now) options.now.delimiter reader.old }
+    requires between { IsBetween slice_left options.now.delimiter reader.old }
     requires expects { reader.old.expected ≡ Some (length (fields_of header.now)) }
     requires within { place < length (fields_of header.now) }
-    requires short { length (unread (λ r. Some r.now) reader.old) ≤ 268435456 }
+    requires short { length (unread slice_left reader.old) ≤ 268435456 }
     ensures ok { IfOk result (λ g.
         answer_behind options.now.room place (fields_of header.now) []
-        (rows_left (λ r. Some r.now) options.now.delimiter reader.old)
+        (rows_left slice_left options.now.delimiter reader.old)
         ≡ Ok (tabled place (fields_of header.now) g)) }
     ensures table { IfOk result (λ g. IsFeatureTable (tabled place (fields_of header.now) g)) }
     ensures err { IfErr result (λ e. e ≢ TextError.NoMemory →
         answer_behind options.now.room place (fields_of header.now) []
-        (rows_left (λ r. Some r.now) options.now.delimiter reader.old) ≡ Err e) }
+        (rows_left slice_left options.now.delimiter reader.old) ≡ Err e) }
 {
     let mut gathered = Gathered::new(alloc);
     for number in 1..268_435_458 {

@@ -7,9 +7,11 @@ ghost use Rattle.cv_model.specs.Polygons.{is_low, passes_right, is_crossed, cros
 use crate::measures::{distance, product, reach};
 use cv_model::{Point, Point2, Polygon};
 
-/// Whether a position lies inside a polygon: an odd number of the edges of all its rings crosses right of it.
+/// Whether a position lies inside a polygon: an odd number of the edges of all its rings crosses
+/// right of it.
 ///
-/// Left and bottom borders belong to the polygon, right and top borders don't. The position is in doubled millionths.
+/// Left and bottom borders belong to the polygon, right and top borders don't. The position is in
+/// doubled millionths.
 pub fn inside(polygon: &Polygon, p: Point2) -> bool
     ensures { result ≡ is_inside p polygon.now }
 {
@@ -28,19 +30,25 @@ fn is_crossed_oddly(points: &[Point], p: Point2) -> bool
         return false;
     };
     let mut before = *last;
+    let mut was_low = is_low(before, p);
     let mut odd = false;
     for point in points {
-        odd = odd != is_crossed(before, *point, p);
+        let low = is_low(*point, p);
+        odd = odd != is_crossed(before, was_low, *point, low, p);
         before = *point;
+        was_low = low;
     }
     odd
 }
 
-/// Whether the edge from `a` to `b` crosses the height of `p` strictly right of it.
-fn is_crossed(a: Point, b: Point, p: Point2) -> bool
+/// Whether the edge from `a` to `b` crosses the height of `p` strictly right of it, where it is known
+/// which of its ends are low.
+fn is_crossed(a: Point, a_low: bool, b: Point, b_low: bool, p: Point2) -> bool
+    requires a_low { a_low ≡ is_low p (doubled a) }
+    requires b_low { b_low ≡ is_low p (doubled b) }
     ensures { result ≡ is_crossed p (a, b) }
 {
-    match (is_low(a, p), is_low(b, p)) {
+    match (a_low, b_low) {
         (true, false) => passes_right(a, b, p),
         (false, true) => passes_right(b, a, p),
         _ => false,

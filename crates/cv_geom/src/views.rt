@@ -20,7 +20,8 @@ pub enum ViewError {
     Range,
 }
 
-/// The view of `w` by `h` square pixels with an extent in its middle, whose pixels are as small as the extent allows.
+/// The view of `w` by `h` square pixels with an extent in its middle, whose pixels are as small as
+/// the extent allows.
 pub fn view_of(extent: Extent, w: u32, h: u32) -> Result<View, ViewError>
     ensures answer { result ≡ view_of extent w h }
     ensures size { (result ≡ Err ViewError.Size) ↔ IsNoSize w h }
@@ -53,7 +54,8 @@ fn laid_round(extent: Extent, w: u32, h: u32) -> Result<View, ViewError>
     )
 }
 
-/// A view moved by so many of its pixels: by `dx` eastwards and by `dy` southwards. Only its range can refuse it.
+/// A view moved by so many of its pixels: by `dx` eastwards and by `dy` southwards. Only its range
+/// can refuse it.
 pub fn pan(view: &View, dx: i32, dy: i32) -> Result<View, ViewError>
     ensures answer { result ≡ pan view.now dx dy }
     ensures range { (result ≡ Err ViewError.Range) ↔ LeavesRange (moved view.now dx dy) }
@@ -81,7 +83,8 @@ fn moved_top(view: &View, dy: i32) -> i128
     i128::from(view.ty2) - span(i64::from(dy), view.u)
 }
 
-/// A view with pixels `num / den` times as long, rounded upwards, round the same middle. Only its range can refuse it.
+/// A view with pixels `num / den` times as long, rounded upwards, round the same middle. Only its
+/// range can refuse it.
 pub fn zoom(view: &View, num: u32, den: u32) -> Result<View, ViewError>
     requires num_in { IsZoomPart num }
     requires den_in { IsZoomPart den }
@@ -164,7 +167,8 @@ fn pixel_side(extent: Extent, w: u32, h: u32) -> i64
     1.max(across.max(down)) as i64
 }
 
-/// How many millionths each of these pixels has to span, so that all of them reach from one coordinate to another.
+/// How many millionths each of these pixels has to span, so that all of them reach from one
+/// coordinate to another.
 fn share(from: i64, to: i64, pixels: u32) -> u64
     requires from_in { IsCoordinate from }
     requires to_in { IsCoordinate to }

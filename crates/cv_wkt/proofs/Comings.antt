@@ -44,10 +44,6 @@ after_more f s One r a = a
 after_more f s Several None a = a
 after_more f s Several (Some ts) a = after f ts a
 
-pub no_more : (s : Sort) (m : Many) → MoreOf s m
-no_more s One = tt
-no_more s Several = None
-
 -- a list is its first item and the further ones
 pub record Split (f : Frame) (s : Sort) (m : Many) (ts : Tree s m) : Type 0 where
   pub first : Tree s One

@@ -325,15 +325,14 @@ impl Reader {
         ensures ok { OnOk result (taken self.old kind at ≡ Ok self.new) }
         ensures err { IfErr result (λ e. (e ≢ WktError.NoMemory) → taken self.old kind at ≡ Err e) }
     {
-        let limit = self.limit(kind);
-        let cause = self.next.cause(kind);
-        match limit {
-            Some(limit) => Err(limit.at(at)),
-            None => match self.step(alloc, kind) {
-                Ok(true) => Ok(()),
-                Ok(false) => Err(cause.at(at)),
-                Err(_) => Err(WktError::NoMemory),
-            },
+        if let Some(limit) = self.limit(kind) {
+            return Err(limit.at(at));
+        }
+        let before = self.next;
+        match self.step(alloc, kind) {
+            Ok(true) => Ok(()),
+            Ok(false) => Err(before.cause(kind).at(at)),
+            Err(_) => Err(WktError::NoMemory),
         }
     }
 

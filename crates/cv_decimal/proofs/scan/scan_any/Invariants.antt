@@ -1,5 +1,5 @@
 use Rattle.cv_decimal.proofs.Scanning.{Along}
-use Rattle.cv_decimal.proofs.scan.scan.Given as goal
+use Rattle.cv_decimal.proofs.scan.scan_any.Given as goal
 
 abbrev pub invariant-loop-at : goal.invariant-loop-at
 invariant-loop-at l = Along l.text l.place l.kept l.at

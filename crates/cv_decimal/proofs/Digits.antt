@@ -1,0 +1,95 @@
+-- The loop over the digits at the front of a text, on either side of the point.
+use Rattle.std.proofs.Common.{◌≡◌, ℕ, zero, suc, ◌+◌, ◌*◌, ◌<◌, ◌≤◌, Bool, true, false, if◌then◌else◌, nat_lt, List, ◌∷◌, length, drop, get_or, Some, option_map, refl, sym, ap, subst, ◌∙◌, arith}
+use Rattle.std.proofs.Math.Seq.{drop-cons}
+use Rattle.cv_reading.specs.Machines.{run, one_further, further_by, from_there}
+use Rattle.cv_reading.proofs.Running.{further_by-one_further}
+use Rattle.cv_decimal.specs.declared.kept.Kept.{Kept}
+use Rattle.cv_decimal.specs.declared.mark.Mark.TheVariants.{Digit}
+use Rattle.cv_decimal.specs.declared.place.Place.{Place}
+use Rattle.cv_decimal.specs.declared.place.Place.TheVariants.{Whole, Dotted}
+use Rattle.cv_decimal.specs.declared.place.Role.{Role}
+use Rattle.cv_decimal.specs.declared.place.Role.TheVariants.{WholeDigit, RestDigit}
+use Rattle.cv_decimal.specs.Marks.{mark_of}
+use Rattle.cv_decimal.specs.Reader.{next_of}
+use Rattle.cv_decimal.specs.Keeping.{with_digit, with_places, kept_role, keeping_reader, Goes}
+
+one_step : (b : ℕ) (w : List ℕ) (q r : Place) (l : Kept) (role : Role) → next_of q (mark_of b) ≡ Some (r, role)
+    → run keeping_reader (b ∷ w) (record { place = q; parts = l }) ≡ one_further (run keeping_reader w (record { place = r; parts = kept_role role l }))
+one_step b w q r l role next =
+    ap (λ o. from_there (run keeping_reader w) (option_map (λ (x : Place × Role). record { place = x.0; parts = kept_role x.1 l }) o)) next
+
+-- one byte more
+goes_on : (text : List ℕ) (p q r : Place) (k l : Kept) (role : Role) (i : ℕ) → i < length text → next_of q (mark_of (get_or text i 0)) ≡ Some (r, role)
+    → Goes text p k i q l → Goes text p k (i + 1) r (kept_role role l)
+goes_on text p q r k l role i within next goes =
+    let next_place : suc i ≡ i + 1 = omega arith in
+    let left = drop-cons text i 0 within ∙ ap (λ n. get_or text i 0 ∷ drop n text) next_place in
+    goes
+    ∙ ap (λ w. further_by i (run keeping_reader w (record { place = q; parts = l }))) left
+    ∙ ap (further_by i) (one_step (get_or text i 0) (drop (i + 1) text) q r l role next)
+    ∙ further_by-one_further i (run keeping_reader (drop (i + 1) text) (record { place = r; parts = kept_role role l }))
+
+-- behind i digits: they were kept, and what is left gives the answer on either side of the point
+pub record Kept_digits (text : List ℕ) (old now : Kept) (i : ℕ) : Type 0 where
+  pub few : now.digits < 2000000000000000000
+  pub dropped : now.dropped ≤ old.dropped + i
+  pub places : now.places ≡ old.places
+  pub begins : 0 < i → (d : ℕ) × (mark_of (get_or text 0 0) ≡ Digit d)
+  pub whole : Goes text Whole old i Whole now
+  pub rest : Goes text Dotted old i Dotted (with_places i now)
+
+-- a digit more, where it is known whether it is kept or only counted
+abbrev digit_if : Bool → ℕ → Kept → Kept
+digit_if c d k = if c then record k { digits = 10 * k.digits + d } else record k { dropped = k.dropped + 1 }
+
+few_still : (c : Bool) (d : ℕ) (k : Kept) → nat_lt k.digits 100000000000000000 ≡ c → d < 256 → k.digits < 2000000000000000000
+    → (digit_if c d k).digits < 2000000000000000000
+few_still true d k e small few = grind arith
+few_still false d k e small few = few
+
+dropped_still : (c : Bool) (d m i : ℕ) (k : Kept) → k.dropped ≤ m + i → (digit_if c d k).dropped ≤ m + (i + 1)
+dropped_still true d m i k h = omega arith
+dropped_still false d m i k h = omega arith
+
+places_still : (c : Bool) (d : ℕ) (k : Kept) → (digit_if c d k).places ≡ k.places
+places_still true d k = refl
+places_still false d k = refl
+
+places_apart : (c : Bool) (d i : ℕ) (k : Kept) → record (digit_if c d (with_places i k)) { places = k.places + i + 1 } ≡ with_places (i + 1) (digit_if c d k)
+places_apart true d i k = ap (λ n. record k { digits = 10 * k.digits + d; places = n }) (omega arith)
+places_apart false d i k = ap (λ n. record k { dropped = k.dropped + 1; places = n }) (omega arith)
+
+begins_still : (text : List ℕ) (i d : ℕ) → mark_of (get_or text i 0) ≡ Digit d → (0 < i → (e : ℕ) × (mark_of (get_or text 0 0) ≡ Digit e))
+    → (e : ℕ) × (mark_of (get_or text 0 0) ≡ Digit e)
+begins_still text zero d mark h = (d, mark)
+begins_still text (suc i) d mark h = h (omega arith)
+
+pub digit_more : (text : List ℕ) (old now : Kept) (i d : ℕ) → d < 256 → i < length text → mark_of (get_or text i 0) ≡ Digit d → Kept_digits text old now i
+    → Kept_digits text old (with_digit d now) (i + 1)
+digit_more text old now i d small within mark h =
+    let more = nat_lt now.digits 100000000000000000 in
+    record {
+      few = few_still more d now refl small h.few;
+      dropped = dropped_still more d old.dropped i now h.dropped;
+      places = places_still more d now ∙ h.places;
+      begins = λ _. begins_still text i d mark h.begins;
+      whole = goes_on text Whole Whole Whole old now (WholeDigit d) i within (ap (next_of Whole) mark) h.whole;
+      rest = subst (λ k. Goes text Dotted old (i + 1) Dotted k) (places_apart more d i now)
+          (goes_on text Dotted Dotted Dotted old (with_places i now) (RestDigit d) i within (ap (next_of Dotted) mark) h.rest);
+    }
+
+-- a first digit is read alike at each place before the point
+alike : (text : List ℕ) (d : ℕ) (p : Place) (k : Kept) → 0 < length text → mark_of (get_or text 0 0) ≡ Digit d → next_of p (Digit d) ≡ Some (Whole, WholeDigit d)
+    → run keeping_reader text (record { place = p; parts = k }) ≡ run keeping_reader text (record { place = Whole; parts = k })
+alike text d p k some mark next =
+    let left : text ≡ get_or text 0 0 ∷ drop 1 text = drop-cons text 0 0 some in
+    let here = λ (q : Place) (e : next_of q (Digit d) ≡ Some (Whole, WholeDigit d)).
+    ap (λ w. run keeping_reader w (record { place = q; parts = k })) left
+    ∙ one_step (get_or text 0 0) (drop 1 text) q Whole k (WholeDigit d) (ap (next_of q) mark ∙ e) in
+    here p next ∙ sym (here Whole refl)
+
+pub goes_first : (text : List ℕ) (old now : Kept) (i : ℕ) (p : Place) → 0 < i → i ≤ length text → ((d : ℕ) → next_of p (Digit d) ≡ Some (Whole, WholeDigit d))
+    → Kept_digits text old now i → Goes text p old i Whole now
+goes_first text old now i p some within next h =
+    let first = h.begins some in
+    alike text first.0 p old (omega arith) first.1 (next first.0) ∙ h.whole

@@ -1,0 +1,5 @@
+use Rattle.cv_decimal.proofs.Digits.{Kept_digits}
+use Rattle.cv_decimal.proofs.kept.Kept.keep_digits.Given as goal
+
+abbrev pub invariant-loop-at : goal.invariant-loop-at
+invariant-loop-at l = Kept_digits l.text l.fn.self l.self l.at
