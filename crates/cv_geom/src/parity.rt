@@ -2,7 +2,7 @@
 
 ghost use Rattle.std.specs.Prelude.{◌≡◌, ◌==◌, ◌%◌};
 ghost use Rattle.cv_model.specs.Positions.{doubled};
-ghost use Rattle.cv_model.specs.Polygons.{is_low, passes_right, is_crossed, crossings, edges, is_inside};
+ghost use Rattle.cv_model.specs.Polygons.{is_low, passes_right, crossings, edges, is_inside};
 
 use crate::measures::{distance, product, reach};
 use cv_model::{Point, Point2, Polygon};
@@ -34,25 +34,20 @@ fn is_crossed_oddly(points: &[Point], p: Point2) -> bool
     let mut odd = false;
     for point in points {
         let low = is_low(*point, p);
-        odd = odd != is_crossed(before, was_low, *point, low, p);
+
+        // Few edges get further.
+        if low != was_low {
+            let (lower, upper) = if low {
+                (*point, before)
+            } else {
+                (before, *point)
+            };
+            odd = odd != passes_right(lower, upper, p);
+        }
         before = *point;
         was_low = low;
     }
     odd
-}
-
-/// Whether the edge from `a` to `b` crosses the height of `p` strictly right of it, where it is known
-/// which of its ends are low.
-fn is_crossed(a: Point, a_low: bool, b: Point, b_low: bool, p: Point2) -> bool
-    requires a_low { a_low ≡ is_low p (doubled a) }
-    requires b_low { b_low ≡ is_low p (doubled b) }
-    ensures { result ≡ is_crossed p (a, b) }
-{
-    match (a_low, b_low) {
-        (true, false) => passes_right(a, b, p),
-        (false, true) => passes_right(b, a, p),
-        _ => false,
-    }
 }
 
 /// Whether a point stands at a height of at most that of `p`.
