@@ -11,10 +11,10 @@ use Rattle.cv_decimal.specs.declared.place.Role.{Role}
 use Rattle.cv_decimal.specs.declared.place.Role.TheVariants.{WholeDigit, RestDigit}
 use Rattle.cv_decimal.specs.Marks.{mark_of}
 use Rattle.cv_decimal.specs.Reader.{next_of}
-use Rattle.cv_decimal.specs.Keeping.{with_digit, with_places, kept_role, keeping_reader, Goes}
+use Rattle.cv_decimal.specs.Keeping.{with_digit, with_places, kept_role, keeping_reader, answer_at, Goes}
 
 one_step : (b : ℕ) (w : List ℕ) (q r : Place) (l : Kept) (role : Role) → next_of q (mark_of b) ≡ Some (r, role)
-    → run keeping_reader (b ∷ w) (record { place = q; parts = l }) ≡ one_further (run keeping_reader w (record { place = r; parts = kept_role role l }))
+    → answer_at q l (b ∷ w) ≡ one_further (answer_at r (kept_role role l) w)
 one_step b w q r l role next =
     ap (λ o. from_there (run keeping_reader w) (option_map (λ (x : Place × Role). record { place = x.0; parts = kept_role x.1 l }) o)) next
 
@@ -25,9 +25,9 @@ goes_on text p q r k l role i within next goes =
     let next_place : suc i ≡ i + 1 = omega arith in
     let left = drop-cons text i 0 within ∙ ap (λ n. get_or text i 0 ∷ drop n text) next_place in
     goes
-    ∙ ap (λ w. further_by i (run keeping_reader w (record { place = q; parts = l }))) left
+    ∙ ap (λ w. further_by i (answer_at q l w)) left
     ∙ ap (further_by i) (one_step (get_or text i 0) (drop (i + 1) text) q r l role next)
-    ∙ further_by-one_further i (run keeping_reader (drop (i + 1) text) (record { place = r; parts = kept_role role l }))
+    ∙ further_by-one_further i (answer_at r (kept_role role l) (drop (i + 1) text))
 
 -- behind i digits: they were kept, and what is left gives the answer on either side of the point
 pub record Kept_digits (text : List ℕ) (old now : Kept) (i : ℕ) : Type 0 where
@@ -80,11 +80,11 @@ digit_more text old now i d small within mark h =
 
 -- a first digit is read alike at each place before the point
 alike : (text : List ℕ) (d : ℕ) (p : Place) (k : Kept) → 0 < length text → mark_of (get_or text 0 0) ≡ Digit d → next_of p (Digit d) ≡ Some (Whole, WholeDigit d)
-    → run keeping_reader text (record { place = p; parts = k }) ≡ run keeping_reader text (record { place = Whole; parts = k })
+    → answer_at p k text ≡ answer_at Whole k text
 alike text d p k some mark next =
     let left : text ≡ get_or text 0 0 ∷ drop 1 text = drop-cons text 0 0 some in
     let here = λ (q : Place) (e : next_of q (Digit d) ≡ Some (Whole, WholeDigit d)).
-    ap (λ w. run keeping_reader w (record { place = q; parts = k })) left
+    ap (answer_at q k) left
     ∙ one_step (get_or text 0 0) (drop 1 text) q Whole k (WholeDigit d) (ap (next_of q) mark ∙ e) in
     here p next ∙ sym (here Whole refl)
 

@@ -15,7 +15,7 @@ use Rattle.cv_decimal.specs.declared.place.Role.TheVariants.{Form, Negative, Who
 use Rattle.cv_decimal.specs.Marks.{is_digit, is_letter, mark_of}
 use Rattle.cv_decimal.specs.Spellings.{fixed}
 use Rattle.cv_decimal.specs.Reader.{next_of, worth_at, At, Parts, with_role, worth, nothing_read, decimal_reader}
-use Rattle.cv_decimal.specs.Keeping.{with_digit, kept_role, settled, kept_worth, nothing_kept, keeping_reader}
+use Rattle.cv_decimal.specs.Keeping.{with_digit, kept_role, settled, kept_worth, nothing_kept, keeping_reader, answer_at}
 use Rattle.cv_decimal.proofs.Numbers.{Stands, stands_zero, stands_kept, stands_dropped, settled_is, settled_above, settled_below, fixed_min}
 
 -- ---- digits are below ten
@@ -157,7 +157,7 @@ alike = record {
 }
 
 -- the machine that keeps 18 digits answers as the one that keeps all
-pub keeping_is : (text : List ℕ) → length text < 9223372036854775808 → run decimal_reader text (record { place = Start; parts = nothing_read }) ≡ run keeping_reader text (record { place = Start; parts = nothing_kept })
+pub keeping_is : (text : List ℕ) → length text < 9223372036854775808 → run decimal_reader text (record { place = Start; parts = nothing_read }) ≡ answer_at Start nothing_kept text
 keeping_is text fits =
     let few : IsFew 0 nothing_kept = record { dropped = omega arith; places = omega arith } in
     same_run 9223372036854775807 SamePlace decimal_reader keeping_reader alike text 0 _ _ (omega arith) (record { place = refl; beside = nothing_beside; few = few })

@@ -1,5 +1,5 @@
 -- What is kept of the numbers while they are read: 18 digits, two counts, and an exponent up to 2^64 - 1.
-use Rattle.std.specs.Prelude.{◌≡◌, ℕ, List, drop, ◌+◌, ◌-◌, ◌*◌, ◌^◌, min, true, false, nat_lt, nat_le, ◌==◌, if◌then◌else◌}
+use Rattle.std.specs.Prelude.{◌≡◌, ℕ, List, drop, Result, ◌+◌, ◌-◌, ◌*◌, ◌^◌, min, true, false, nat_lt, nat_le, ◌==◌, if◌then◌else◌}
 use Rattle.cv_model.specs.Rounding.{rnd}
 use Rattle.cv_reading.specs.Machines.{Machine, run, further_by}
 use Rattle.cv_decimal.specs.declared.kept.Kept.{Kept}
@@ -46,11 +46,14 @@ nothing_kept = record { negative = false; digits = 0; dropped = 0; places = 0; l
 abbrev pub keeping_reader : Machine (At Kept) ℕ Fixed
 keeping_reader = going kept_role kept_worth
 
+-- the answer to a text at a place, with what is kept there
+abbrev pub answer_at : Place → Kept → List ℕ → Result Fixed ℕ
+answer_at p k text = run keeping_reader text (record { place = p; parts = k })
+
 -- so many more digits stand behind the point
 abbrev pub with_places : ℕ → Kept → Kept
 with_places n k = record k { places = k.places + n }
 
 -- the answer to a text at one place is that to the text behind its first n bytes at another
 abbrev pub Goes : List ℕ → Place → Kept → ℕ → Place → Kept → Type 0
-Goes text p k n q l =
-    run keeping_reader text (record { place = p; parts = k }) ≡ further_by n (run keeping_reader (drop n text) (record { place = q; parts = l }))
+Goes text p k n q l = answer_at p k text ≡ further_by n (answer_at q l (drop n text))

@@ -1,8 +1,7 @@
 //! The short way for decimals of digits and a point alone, as most are.
 
 ghost use Rattle.std.specs.Prelude.{◌≡◌, ◌+◌, ◌^◌, ◌<◌, length, Ok, IfSome};
-ghost use Rattle.cv_reading.specs.Machines.{run};
-ghost use Rattle.cv_decimal.specs.Keeping.{keeping_reader, nothing_kept};
+ghost use Rattle.cv_decimal.specs.Keeping.{nothing_kept, answer_at};
 ghost use Rattle.cv_decimal.specs.declared.place.Place.{Place};
 
 use crate::fixed::Fixed;
@@ -10,7 +9,7 @@ use crate::kept::Kept;
 
 /// The value of a decimal without an exponent, a `+` or a point in front; `None` for any other text.
 pub fn plain(text: &[u8]) -> Option<Fixed>
-    ensures { IfSome result (λ v. run keeping_reader text.now (record { place = Place.Start; parts = nothing_kept }) ≡ Ok v) }
+    ensures { IfSome result (λ v. answer_at Place.Start nothing_kept text.now ≡ Ok v) }
 {
     match text.split_first() {
         Some((b'-', digits)) => unsigned(digits, Kept::negative()),
@@ -23,8 +22,8 @@ fn unsigned(text: &[u8], kept: Kept) -> Option<Fixed>
     requires first { kept.digits ≡ 0 }
     requires dropped { kept.dropped ≡ 0 }
     requires places { kept.places ≡ 0 }
-    ensures start { IfSome result (λ v. run keeping_reader text.now (record { place = Place.Start; parts = kept }) ≡ Ok v) }
-    ensures signed { IfSome result (λ v. run keeping_reader text.now (record { place = Place.Signed; parts = kept }) ≡ Ok v) }
+    ensures start { IfSome result (λ v. answer_at Place.Start kept text.now ≡ Ok v) }
+    ensures signed { IfSome result (λ v. answer_at Place.Signed kept text.now ≡ Ok v) }
 {
     let mut kept = kept;
     let whole = kept.keep_digits(text);
@@ -39,7 +38,7 @@ fn behind_whole(text: &[u8], kept: Kept) -> Option<Fixed>
     requires few { kept.digits < 2000000000000000000 }
     requires short { kept.dropped + length text.now < 2 ^ 63 }
     requires places { kept.places ≡ 0 }
-    ensures { IfSome result (λ v. run keeping_reader text.now (record { place = Place.Whole; parts = kept }) ≡ Ok v) }
+    ensures { IfSome result (λ v. answer_at Place.Whole kept text.now ≡ Ok v) }
 {
     let Some((point, digits)) = text.split_first() else {
         return Some(kept.worth());

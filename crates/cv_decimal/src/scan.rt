@@ -1,7 +1,6 @@
 //! The loop over a decimal's bytes.
 ghost use Rattle.std.specs.Prelude.{◌≡◌};
-ghost use Rattle.cv_reading.specs.Machines.{run};
-ghost use Rattle.cv_decimal.specs.Keeping.{keeping_reader, nothing_kept};
+ghost use Rattle.cv_decimal.specs.Keeping.{nothing_kept, answer_at};
 
 use crate::fixed::Fixed;
 use crate::kept::Kept;
@@ -11,7 +10,7 @@ use crate::plain::plain;
 
 /// The value of a text, or how many bytes stand before the first that can't.
 pub fn scan(text: &[u8]) -> Result<Fixed, u64>
-    ensures { result ≡ run keeping_reader text.now (record { place = Place.Start; parts = nothing_kept }) }
+    ensures { result ≡ answer_at Place.Start nothing_kept text.now }
 {
     match plain(text) {
         Some(value) => Ok(value),
@@ -21,7 +20,7 @@ pub fn scan(text: &[u8]) -> Result<Fixed, u64>
 
 /// The same byte by byte, for any text.
 fn scan_any(text: &[u8]) -> Result<Fixed, u64>
-    ensures { result ≡ run keeping_reader text.now (record { place = Place.Start; parts = nothing_kept }) }
+    ensures { result ≡ answer_at Place.Start nothing_kept text.now }
 {
     let mut place = Place::Start;
     let mut kept = Kept::nothing();
