@@ -22,3 +22,4 @@ pub mod Pictures
 pub mod Paintings
 pub mod ProjectFiles
 pub mod Edits
+pub mod Laws

@@ -14,6 +14,7 @@ mod extent;
 mod feature;
 mod geometry;
 mod grid;
+pub mod laws;
 mod layer;
 mod position;
 mod project;
