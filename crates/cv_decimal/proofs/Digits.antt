@@ -2,7 +2,7 @@
 use Rattle.std.proofs.Common.{◌≡◌, ℕ, zero, suc, ◌+◌, ◌*◌, ◌<◌, ◌≤◌, Bool, true, false, if◌then◌else◌, nat_lt, List, ◌∷◌, length, drop, get_or, Some, option_map, refl, sym, ap, subst, ◌∙◌, arith}
 use Rattle.std.proofs.Math.Seq.{drop-cons}
 use Rattle.cv_reading.specs.Machines.{run, one_further, further_by, from_there}
-use Rattle.cv_reading.proofs.Running.{further_by-one_further}
+use Rattle.cv_reading.proofs.MachineLemmas.{further_by-one_further}
 use Rattle.cv_decimal.specs.declared.kept.Kept.{Kept}
 use Rattle.cv_decimal.specs.declared.mark.Mark.TheVariants.{Digit}
 use Rattle.cv_decimal.specs.declared.place.Place.{Place}

@@ -4,7 +4,7 @@ use Rattle.std.proofs.lemmas.Bool.{cases_lt}
 use Rattle.std.proofs.lemmas.Bool.Decides.{nat_tests}
 use Rattle.cv_model.specs.Rounding.{rnd}
 use Rattle.cv_reading.specs.Machines.{run, StepsAlike, GoAlike}
-use Rattle.cv_reading.proofs.Running.{same_run}
+use Rattle.cv_reading.proofs.MachineLemmas.{same_run}
 use Rattle.cv_decimal.specs.declared.kept.Kept.{Kept}
 use Rattle.cv_decimal.specs.declared.mark.Mark.{Mark}
 use Rattle.cv_decimal.specs.declared.mark.Mark.TheVariants.{Digit, Point, Plus, Minus, LetterE, LetterN, LetterA, Other}

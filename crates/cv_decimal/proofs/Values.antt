@@ -4,7 +4,7 @@ use Rattle.std.proofs.lemmas.List.Sums.{fold-append}
 use Rattle.cv_model.specs.Rounding.{rnd}
 use Rattle.cv_reading.specs.Machines.{run}
 use Rattle.cv_reading.specs.Readings.{IsReading}
-use Rattle.cv_reading.proofs.Reading.{is_reading, same_reading, value_spelt}
+use Rattle.cv_reading.proofs.ReadingLemmas.{is_reading, same_reading, value_spelt}
 use Rattle.cv_decimal.specs.declared.place.Place.TheVariants.{Start}
 use Rattle.cv_decimal.specs.declared.place.Role.TheVariants.{WholeDigit, RestDigit, PowerDigit}
 use Rattle.cv_decimal.specs.declared.fixed.Fixed.{Fixed}
