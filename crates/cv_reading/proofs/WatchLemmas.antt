@@ -15,7 +15,7 @@ stop_further_by-zero : {V C : Type 0} (r : Result V (Stop C)) → stop_further_b
 stop_further_by-zero (Ok v) = refl
 stop_further_by-zero (Err (StopAt at c)) = ap (λ n. Err (StopAt n c)) (omega arith)
 
--- n tokens and then one more
+-- n tokens and then one more; for loops over a watched machine, as the lemma of the plain one is
 pub stop_further_by-one_further : {V C : Type 0} (n : ℕ) (r : Result V (Stop C))
     → stop_further_by n (stop_one_further r) ≡ stop_further_by (n + 1) r
 stop_further_by-one_further n (Ok v) = refl
