@@ -1,8 +1,10 @@
 -- What each byte stands for in a decimal.
 use Rattle.std.specs.Prelude.{ℕ, ◌+◌, ◌-◌, Bool, ◌&&◌, ◌||◌, ◌==◌, nat_le, if◌then◌else◌}
 use Rattle.cv_decimal.specs.declared.mark.Mark.{Mark}
-use Rattle.cv_decimal.specs.declared.mark.Mark.TheVariants.{Digit, Point, Plus, Minus, LetterE, LetterN, LetterA, Other}
+use Rattle.cv_decimal.specs.declared.mark.Mark.TheVariants.{Digit, Point, Plus, Minus, LetterE, LetterN}
+use Rattle.cv_decimal.specs.declared.mark.Mark.TheVariants.{LetterA, Other}
 
+-- the digits of ASCII
 abbrev pub is_digit : ℕ → Bool
 is_digit b = nat_le 48 b && nat_le b 57
 
@@ -10,6 +12,7 @@ is_digit b = nat_le 48 b && nat_le b 57
 abbrev pub is_letter : ℕ → ℕ → Bool
 is_letter small b = b == small || b + 32 == small
 
+-- what a byte stands for; letters are read in any case
 abbrev pub mark_of : ℕ → Mark
 mark_of b =
     if is_digit b then Digit (b - 48)

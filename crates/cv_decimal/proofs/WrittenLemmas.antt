@@ -1,5 +1,8 @@
 -- The written form of a decimal: how it is appended, and that it is read back.
-use Rattle.std.proofs.Common.{◌≡◌, ℕ, zero, suc, ◌+◌, ◌-◌, ◌*◌, ◌/◌, ◌%◌, ◌^◌, ◌<◌, ◌≤◌, true, false, ◌==◌, if◌then◌else◌, ℤ, pos, negsuc, int_lt, List, [], ◌∷◌, ◌++◌, map, length, Some, None, decimal, refl, sym, ap, ap₂, subst, ◌∙◌, inl, inr, ◌⊎◌, arith, append_assoc, append-nil, mul_assoc}
+use Rattle.std.proofs.Common.{◌≡◌, ℕ, zero, suc, ◌+◌, ◌-◌, ◌*◌, ◌/◌, ◌%◌, ◌^◌, ◌<◌, ◌≤◌, true, false, ◌==◌}
+use Rattle.std.proofs.Common.{if◌then◌else◌, ℤ, pos, negsuc, int_lt, List, [], ◌∷◌, ◌++◌, map, length, Some}
+use Rattle.std.proofs.Common.{None, decimal, refl, sym, ap, ap₂, subst, ◌∙◌, inl, inr, ◌⊎◌, arith}
+use Rattle.std.proofs.Common.{append_assoc, append-nil, mul_assoc}
 use Rattle.std.proofs.Math.Nat.{pow-succ'}
 use Rattle.std.proofs.lemmas.Nat.{div_below, mod_below, div-add-mod', pow-add}
 use Rattle.std.proofs.lemmas.List.{map-append}
@@ -12,10 +15,12 @@ use Rattle.cv_model.specs.Rounding.{rnd}
 use Rattle.cv_model.specs.Positions.{IsCoordinate}
 use Rattle.cv_decimal.specs.declared.mark.Mark.TheVariants.{Digit, Point, Minus}
 use Rattle.cv_decimal.specs.declared.fixed.Fixed.TheVariants.{Value}
-use Rattle.cv_decimal.specs.Marks.{is_digit, mark_of}
-use Rattle.cv_decimal.specs.Spellings.{NoSign, MinusSign, Mantissa, Digits, NoExponent, Number, digit_marks, mantissa_marks, number_from, all_digits, places, fixed, Spells}
+use Rattle.cv_decimal.specs.Mark.{is_digit, mark_of}
+use Rattle.cv_decimal.specs.Spellings.{NoSign, MinusSign, Mantissa, Digits, NoExponent, Number, digit_marks}
+use Rattle.cv_decimal.specs.Spellings.{mantissa_marks, number_from, all_digits, places, fixed, Spells}
 use Rattle.cv_decimal.specs.Written.{places_of, written_size, written}
-use Rattle.cv_decimal.proofs.Numbers.{rnd_whole, ten_pos, fixed_fits}
+use Rattle.cv_decimal.proofs.DigitLemmas.{mark_is}
+use Rattle.cv_decimal.proofs.NumberLemmas.{rnd_whole, ten_pos, fixed_fits}
 
 -- ---- the digits behind the point, one at a time
 
@@ -38,20 +43,28 @@ pub record Placing (before : List ℕ) (all : ℕ) (text : List ℕ) (rest place
   pub within : places ≤ 6
   pub same : text ++ places_of places rest ≡ before ++ places_of 6 all
 
-placing_step : (before : List ℕ) (all : ℕ) (text new : List ℕ) (rest k : ℕ) → Placing before all text rest (suc k) → 0 < rest → new ≡ text ++ (48 + rest / 10 ^ k) ∷ [] → Placing before all new (rest % 10 ^ k) k
+placing_step : (before : List ℕ) (all : ℕ) (text new : List ℕ) (rest k : ℕ)
+    → Placing before all text rest (suc k) → 0 < rest → new ≡ text ++ (48 + rest / 10 ^ k) ∷ []
+    → Placing before all new (rest % 10 ^ k) k
 placing_step before all text new rest k h some e = record {
   below = mod_below rest (10 ^ k) (ten_pos k);
   within = let w = h.within in omega arith;
   same =
-      ap (λ x. x ++ places_of k (rest % 10 ^ k)) e ∙ append_assoc text ((48 + rest / 10 ^ k) ∷ []) (places_of k (rest % 10 ^ k))
+      ap (λ x. x ++ places_of k (rest % 10 ^ k)) e
+      ∙ append_assoc text ((48 + rest / 10 ^ k) ∷ []) (places_of k (rest % 10 ^ k))
       ∙ ap (λ x. text ++ x) (sym (places_more k rest some)) ∙ h.same;
 }
 
-pub placing_more : (before : List ℕ) (all : ℕ) (text new : List ℕ) (rest places unit digit : ℕ) (bytes : List ℕ)
-    → Placing before all text rest places → 0 < rest → unit ≡ 10 ^ (places - 1) → digit ≡ 48 + rest / unit → (digit < 128 → bytes ≡ digit ∷ []) → new ≡ text ++ bytes
+-- a turn of the loop appends one digit
+pub placing_more : (before : List ℕ) (all : ℕ) (text new : List ℕ) (rest places unit digit : ℕ)
+    (bytes : List ℕ)
+    → Placing before all text rest places → 0 < rest → unit ≡ 10 ^ (places - 1) → digit ≡ 48 + rest / unit
+    → (digit < 128 → bytes ≡ digit ∷ []) → new ≡ text ++ bytes
     → Placing before all new (rest % unit) (places - 1)
-placing_more before all text new rest zero unit digit bytes h some tens is ascii e = absurd (omega (arith, h.below))
-placing_more before all text new rest (suc k) unit digit bytes h some tens is ascii e = subst (λ p. Placing before all new (rest % unit) p) down by_unit
+placing_more before all text new rest zero unit digit bytes h some tens is ascii e =
+    absurd (omega (arith, h.below))
+placing_more before all text new rest (suc k) unit digit bytes h some tens is ascii e =
+    subst (λ p. Placing before all new (rest % unit) p) down by_unit
   where
     down : k ≡ suc k - 1
     down = omega arith
@@ -63,15 +76,14 @@ placing_more before all text new rest (suc k) unit digit bytes h some tens is as
     next = is ∙ ap (λ u. 48 + rest / u) (sym same)
 
     pushed : new ≡ text ++ (48 + rest / 10 ^ k) ∷ []
-    pushed = e ∙ ap (λ x. text ++ x) (ascii (omega (arith, next, digit_below rest k h.below)) ∙ ap (λ d. d ∷ []) next)
+    pushed = e ∙ ap (λ x. text ++ x)
+        (ascii (omega (arith, next, digit_below rest k h.below)) ∙ ap (λ d. d ∷ []) next)
 
     by_unit : Placing before all new (rest % unit) k
-    by_unit = subst (λ u. Placing before all new (rest % u) k) same (placing_step before all text new rest k h some pushed)
+    by_unit = subst (λ u. Placing before all new (rest % u) k) same
+        (placing_step before all text new rest k h some pushed)
 
 -- ---- what is written is a spelling
-
-mark_is : (b : ℕ) → is_digit b ≡ true → mark_of b ≡ Digit (b - 48)
-mark_is b e = rw e refl
 
 mark_digit : (d : ℕ) → d < 10 → mark_of (48 + d) ≡ Digit d
 mark_digit d h =
@@ -86,23 +98,32 @@ record SpellsNumber (n : ℕ) (bs : List ℕ) : Type 0 where
   number : number_from 0 (first ∷ others) ≡ n
 
 one_digit : (n : ℕ) → n < 10 → SpellsNumber n ((48 + n) ∷ [])
-one_digit n h = record { first = n; others = []; marks = ap (λ m. m ∷ []) (mark_digit n h); number = omega arith }
+one_digit n h = record {
+  first = n;
+  others = [];
+  marks = ap (λ m. m ∷ []) (mark_digit n h);
+  number = omega arith;
+}
 
-digit_behind : (n : ℕ) (bs : List ℕ) → 10 ≤ n → SpellsNumber (n / 10) bs → SpellsNumber n (bs ++ (48 + n % 10) ∷ [])
+digit_behind : (n : ℕ) (bs : List ℕ) → 10 ≤ n → SpellsNumber (n / 10) bs
+    → SpellsNumber n (bs ++ (48 + n % 10) ∷ [])
 digit_behind n bs h s = record {
   first = s.first;
   others = s.others ++ (n % 10) ∷ [];
   marks =
-      map-append mark_of bs ((48 + n % 10) ∷ []) ∙ ap₂ (λ x y. x ++ y ∷ []) s.marks (mark_digit (n % 10) (omega arith))
+      map-append mark_of bs ((48 + n % 10) ∷ [])
+      ∙ ap₂ (λ x y. x ++ y ∷ []) s.marks (mark_digit (n % 10) (omega arith))
       ∙ ap (λ x. Digit s.first ∷ x) (sym (map-append Digit s.others ((n % 10) ∷ [])));
   number =
-      fold-append (λ m k. 10 * m + k) 0 (s.first ∷ s.others) ((n % 10) ∷ []) ∙ ap (λ m. 10 * m + n % 10) s.number ∙ omega arith;
+      fold-append (λ m k. 10 * m + k) 0 (s.first ∷ s.others) ((n % 10) ∷ [])
+      ∙ ap (λ m. 10 * m + n % 10) s.number ∙ omega arith;
 }
 
 decimal_spelt : (n : ℕ) → n < 18446744073709551616 → SpellsNumber n (decimal n)
 decimal_spelt n h = decimal_by_steps SpellsNumber one_digit digit_behind n h
 
--- the written digits behind the point spell r / 10^k: with zeros up to k digits they are m * 10^k + r behind any m
+-- the written digits behind the point spell r / 10^k: with zeros up to k digits they are m * 10^k + r behind
+-- any m
 record SpellsPlaces (k r : ℕ) : Type 0 where
   all : List ℕ
   marks : map mark_of (places_of k r) ≡ digit_marks all
@@ -120,18 +141,21 @@ no_places k r e = record {
 place_before : (k r : ℕ) → 0 < r → r < 10 ^ suc k → SpellsPlaces k (r % 10 ^ k) → SpellsPlaces (suc k) r
 place_before k r some below s = record {
   all = (r / 10 ^ k) ∷ s.all;
-  marks = ap (map mark_of) (places_more k r some) ∙ ap₂ (λ x y. x ∷ y) (mark_digit (r / 10 ^ k) (digit_below r k below)) s.marks;
+  marks = ap (map mark_of) (places_more k r some)
+      ∙ ap₂ (λ x y. x ∷ y) (mark_digit (r / 10 ^ k) (digit_below r k below)) s.marks;
   few = let f = s.few in omega arith;
   number = λ m.
       let d : ℕ = r / 10 ^ k in
       let shift : suc k - suc (length s.all) ≡ k - length s.all = omega arith in
       let tens = ap (λ z. m * z) (pow-succ' 10 k) in
-      ap (λ p. number_from (10 * m + d) s.all * 10 ^ p) shift ∙ s.number (10 * m + d) ∙ omega (arith, tens, div-add-mod' r (10 ^ k));
+      ap (λ p. number_from (10 * m + d) s.all * 10 ^ p) shift ∙ s.number (10 * m + d)
+      ∙ omega (arith, tens, div-add-mod' r (10 ^ k));
 }
 
 places_spelt : (k r : ℕ) → r < 10 ^ k → SpellsPlaces k r
 places_spelt zero r h = no_places zero r (omega arith)
-places_spelt (suc k) r h = by_rest (cases_lt 0 r) (places_spelt k (r % 10 ^ k) (mod_below r (10 ^ k) (ten_pos k)))
+places_spelt (suc k) r h =
+    by_rest (cases_lt 0 r) (places_spelt k (r % 10 ^ k) (mod_below r (10 ^ k) (ten_pos k)))
   where
     by_rest : (0 < r) ⊎ (r ≤ 0) → SpellsPlaces k (r % 10 ^ k) → SpellsPlaces (suc k) r
     by_rest (inl some) s = place_before k r some h s
@@ -150,8 +174,10 @@ whole_spelt n fits none =
     let form = ap (λ t. decimal (n / 1000000) ++ (if t then [] else 46 ∷ places_of 6 (n % 1000000))) rest in
     record {
       number = Digits w.first w.others None;
-      marks = ap (map mark_of) form ∙ map-append mark_of (decimal (n / 1000000)) [] ∙ ap (λ x. x ++ []) w.marks;
-      size = ap (λ q. rnd (q * 10 ^ 6) 1) w.number ∙ ap (λ q. rnd q 1) (omega arith) ∙ rnd_whole n 1 (omega arith);
+      marks = ap (map mark_of) form ∙ map-append mark_of (decimal (n / 1000000)) []
+          ∙ ap (λ x. x ++ []) w.marks;
+      size = ap (λ q. rnd (q * 10 ^ 6) 1) w.number ∙ ap (λ q. rnd q 1) (omega arith)
+          ∙ rnd_whole n 1 (omega arith);
     }
 
 rest_spelt : (n : ℕ) → n < 18446744073709551616 → 0 < n % 1000000 → SpellsSize n
@@ -167,14 +193,17 @@ rest_spelt n fits some =
     let last : len + 0 ≡ len = omega arith in
     let q : ℕ = n / 1000000 in
     let parts : q * 1000000 + n % 1000000 ≡ n = omega arith in
-    let digits_all = fold-append (λ m k. 10 * m + k) 0 (w.first ∷ w.others) r.all ∙ ap (λ m. number_from m r.all) w.number in
+    let digits_all = fold-append (λ m k. 10 * m + k) 0 (w.first ∷ w.others) r.all
+    ∙ ap (λ m. number_from m r.all) w.number in
     let product =
-    ap (λ m. m * 10 ^ 6) digits_all ∙ ap (λ z. number_from q r.all * z) six ∙ sym (mul_assoc (number_from q r.all) (10 ^ (6 - len)) (10 ^ len))
+    ap (λ m. m * 10 ^ 6) digits_all ∙ ap (λ z. number_from q r.all * z) six
+    ∙ sym (mul_assoc (number_from q r.all) (10 ^ (6 - len)) (10 ^ len))
     ∙ ap (λ z. z * 10 ^ len) (r.number q ∙ parts) in
     record {
       number = Digits w.first w.others (Some r.all);
       marks =
-          ap (map mark_of) form ∙ map-append mark_of (decimal q) (46 ∷ places_of 6 (n % 1000000)) ∙ ap₂ (λ x y. x ++ Point ∷ y) w.marks r.marks;
+          ap (map mark_of) form ∙ map-append mark_of (decimal q) (46 ∷ places_of 6 (n % 1000000))
+          ∙ ap₂ (λ x y. x ++ Point ∷ y) w.marks r.marks;
       size = ap₂ (λ z p. rnd z (10 ^ p)) product last ∙ rnd_whole n (10 ^ len) (ten_pos len);
     }
 
@@ -195,14 +224,16 @@ written_spelt (pos n) h = by_size (omega (arith, ints, h.1)) (size_spelt n (omeg
   where
     by_size : n ≤ 1000000000000000 → SpellsSize n → Spells (written (pos n)) (Value (pos n))
     by_size few s =
-        let form = ap (λ t. map mark_of (if t then 45 ∷ written_size n else written_size n)) (not_negative n) in
+        let form = ap (λ t. map mark_of (if t then 45 ∷ written_size n else written_size n))
+        (not_negative n) in
         record {
           sign = NoSign;
           body = Number s.number NoExponent;
           marks = form ∙ s.marks ∙ sym (append-nil (mantissa_marks s.number));
           worth = sym (ap (fixed false) s.size ∙ fixed_fits false n few);
         }
-written_spelt (negsuc n) h = by_size (omega (arith, ints, h.0)) (size_spelt (suc n) (omega (arith, ints, h.0)))
+written_spelt (negsuc n) h =
+    by_size (omega (arith, ints, h.0)) (size_spelt (suc n) (omega (arith, ints, h.0)))
   where
     by_size : suc n ≤ 1000000000000000 → SpellsSize (suc n) → Spells (written (negsuc n)) (Value (negsuc n))
     by_size few s = record {
