@@ -1,7 +1,7 @@
 //! Blend functions: a channel of the backdrop and one of the source to one channel.
 //!
-//! Source: the formulas of W3C Compositing and Blending Level 1, with channels from 0 to 255; divisions round to the nearest, a
-//! half upwards.
+//! Source: the formulas of W3C Compositing and Blending Level 1, with channels from 0 to 255; divisions
+//! round to the nearest, a half upwards.
 
 ghost use Rattle.std.specs.Prelude.{◌≡◌, ◌+◌, ◌-◌, ◌*◌, ◌≤◌, min, max};
 ghost use Rattle.cv_number.specs.Rounding.{rnd};

@@ -1,7 +1,8 @@
 -- Blending: a layer's colour merged onto an opaque backdrop.
 --
--- Source: W3C Compositing and Blending Level 1 (blending over an opaque backdrop), in whole numbers; each division rounds to
--- the nearest, a half upwards. Channels are 0 to 255: cb is the backdrop's, cs the source's.
+-- Source: W3C Compositing and Blending Level 1 (blending over an opaque backdrop), in whole numbers; each
+-- division rounds to the nearest, a half upwards. Channels are 0 to 255: cb is the backdrop's, cs the
+-- source's.
 use Rattle.std.specs.Prelude.{ℕ, ◌+◌, ◌-◌, ◌*◌, ◌==◌, nat_le, min, max, if◌then◌else◌, List, fold}
 use Rattle.cv_number.specs.Rounding.{rnd}
 use Rattle.cv_model.specs.declared.colour.Rgb.{Rgb}
@@ -39,7 +40,8 @@ exclusion cb cs = rnd (255 * (cb + cs) - 2 * (cb * cs)) 255
 abbrev pub mixed : ℕ → ℕ → ℕ → ℕ
 mixed a cb c = rnd ((255 - a) * cb + a * c) 255
 
--- a source's channel of effective alpha a, merged onto a backdrop's; an addition is weighed by the alpha and then capped
+-- a source's channel of effective alpha a, merged onto a backdrop's; an addition is weighed by the alpha
+-- and then capped
 abbrev pub channel_merged : Blend → ℕ → ℕ → ℕ → ℕ
 channel_merged Normal a cb cs = mixed a cb cs
 channel_merged Multiply a cb cs = mixed a cb (multiply cb cs)

@@ -103,13 +103,15 @@ without_feature id features = filter (λ feature. not (is_feature id feature)) f
 
 -- the values of a feature with another text in the first column of this name
 abbrev pub with_text : List (List ℕ) → List ℕ → List ℕ → List (List ℕ) → List (List ℕ)
-with_text columns column value values = option_map_or (λ k. set values k value) (position (bytes_eq column) columns) values
+with_text columns column value values =
+    option_map_or (λ k. set values k value) (position (bytes_eq column) columns) values
 
 -- another text in the first column of this name, of the feature with this id
 abbrev pub with_attribute : ℕ → List ℕ → List ℕ → Contents → Contents
 with_attribute id column value (Features columns features) =
     Features columns
-    (change_feature id (λ feature. record feature { values = (with_text columns column value feature.values) }) features)
+    (change_feature id
+    (λ feature. record feature { values = (with_text columns column value feature.values) }) features)
 with_attribute id column value (Cells grid) = Cells grid
 
 -- the layers without the one of this id
@@ -190,8 +192,8 @@ count_vertices contents = sum_by feature_vertices (features_of contents)
 abbrev pub count_values : Contents → ℕ
 count_values contents = sum_by (λ (feature : Feature). length feature.values) (features_of contents)
 
--- layers pass a limit: 32 of them; 1,000,000 features, 4,000,000 vertices, 16,000,000 attribute values, 64,000,000 cells in
--- all; 16,000,000 cells of one grid
+-- layers pass a limit: 32 of them; 1,000,000 features, 4,000,000 vertices, 16,000,000 attribute values,
+-- 64,000,000 cells in all; 16,000,000 cells of one grid
 unfoldable pub is_over : List Layer → Bool
 is_over layers =
     nat_lt 32 (length layers)
@@ -304,7 +306,8 @@ is_bad_place layers _ = false
 
 -- the first cause whose test holds
 abbrev pub first_refusal : List (Bool × EditError) → Option EditError
-first_refusal tests = option_map (λ (test : Bool × EditError). test.1) (find (λ (test : Bool × EditError). test.0) tests)
+first_refusal tests =
+    option_map (λ (test : Bool × EditError). test.1) (find (λ (test : Bool × EditError). test.0) tests)
 
 -- why an edit is refused, or nothing where it is accepted
 unfoldable pub verdict : Project → ℕ → Edit → Option EditError
@@ -327,7 +330,7 @@ last_touch id (edit ∷ rest) =
     else if touches_any edit (id ∷ []) then 1
     else 0
 
--- the revision of a layer after these accepted edits: 0 where it isn't there, else one more than the number of the last
--- edit that touches it, and 1 where none does
+-- the revision of a layer after these accepted edits: 0 where it isn't there, else one more than the number
+-- of the last edit that touches it, and 1 where none does
 abbrev pub revision : Project → List Edit → ℕ → ℕ
 revision project edits id = if has_layer id (fold step project edits).layers then suc (last_touch id edits) else 0

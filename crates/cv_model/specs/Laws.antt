@@ -1,4 +1,5 @@
--- What holds of edits, parts and pictures whatever the project: laws, each the clause of a function of its name.
+-- What holds of edits, parts and pictures whatever the project: laws, each the clause of a function of its
+-- name.
 use Rattle.std.specs.Prelude.{◌≡◌, ℕ, ◌<◌, false, List, [], ◌∷◌, Some, None}
 use Rattle.cv_model.specs.declared.blend.Blend.TheVariants.{Normal}
 use Rattle.cv_model.specs.declared.colour.Rgb.{Rgb}

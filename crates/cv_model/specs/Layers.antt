@@ -15,7 +15,8 @@ use Rattle.cv_model.specs.Grids.{CellGrid}
 use Rattle.cv_model.specs.Scales.{ScaleBounds, holds_scale}
 use Rattle.cv_model.specs.Views.{PixelGrid}
 
--- what a layer holds: features with the names of their columns, or a grid; the notes of a reader are no part of it
+-- what a layer holds: features with the names of their columns, or a grid; the notes of a reader are no
+-- part of it
 pub data Contents : Type 0 where
   Features : (columns : List (List ℕ)) (features : List Feature) → Contents
   Cells : (grid : CellGrid) → Contents
@@ -77,8 +78,8 @@ has_layer id layers = list_any (is_layer id) layers
 abbrev pub core_in : List Layer → ℕ → Option Core
 core_in layers id = option_map (λ layer. layer.core) (find (is_layer id) layers)
 
--- all that a layer's image is painted from: its own core, and those of its mask layer and of its join layer where
--- these are named and there
+-- all that a layer's image is painted from: its own core, and those of its mask layer and of its join layer
+-- where these are named and there
 pub record Parts : Type 0 where
   pub own : Core
   pub mask : Option Core

@@ -14,7 +14,8 @@ pub record Stamp : Type 0 where
   pub id : ℕ
   pub revision : ℕ
 
--- what a layer is painted from: its parts, and the stamps of the layers that it depends on, in the order of its dependencies
+-- what a layer is painted from: its parts, and the stamps of the layers that it depends on, in the order of
+-- its dependencies
 pub record Input : Type 0 where
   pub parts : Parts
   pub stamps : List Stamp

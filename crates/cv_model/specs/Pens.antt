@@ -41,7 +41,8 @@ abbrev pub straddles : Position → Position → List Position → Bool
 straddles a b ps =
     not (list_all (λ q. int_lt (pos 0) (side_of a b q)) ps) && not (list_all (λ q. int_lt (side_of a b q) (pos 0)) ps)
 
--- the segment from a to b meets the square of half-side r round p: their boxes overlap, and the square straddles the line
+-- the segment from a to b meets the square of half-side r round p: their boxes overlap, and the square
+-- straddles the line
 unfoldable pub meets : ℤ → Position → Position → Position → Bool
 meets r p a b = overlaps r p.x a.x b.x && overlaps r p.y a.y b.y && straddles a b (corners r p)
 

@@ -107,7 +107,8 @@ cell_colour (Single symbol) grid p = transparent
 cell_colour (Categorised field classes fallback) grid p = transparent
 cell_colour (Graduated field classes) grid p = transparent
 
--- what a layer's contents paint at p: the strokes of its features in order, each over those before, or its cell's colour
+-- what a layer's contents paint at p: the strokes of its features in order, each over those before, or its
+-- cell's colour
 abbrev pub painted : Contents → Parts → PixelGrid → Position → Rgba
 painted (Features columns features) parts view p = laid (flat_map (feature_strokes parts view p) features)
 painted (Cells grid) parts view p = cell_colour parts.own.style grid p
@@ -121,7 +122,8 @@ pixel parts view i j =
 
 -- what a slot merges: its layer's pixel with the layer's opacity and mode
 abbrev pub merged_slot : Project → PixelGrid → ℕ → ℕ → Layer → Rgba × ℕ × Blend
-merged_slot project view i j layer = (pixel (parts_among project.layers layer.core) view i j, layer.opacity, layer.blend)
+merged_slot project view i j layer =
+    (pixel (parts_among project.layers layer.core) view i j, layer.opacity, layer.blend)
 
 -- the colour of these layers, bottom first, merged onto the background
 unfoldable pub colour_of : Project → List Layer → PixelGrid → ℕ → ℕ → Rgb
@@ -142,7 +144,8 @@ picture project view = picture_of project (slots project view) view
 -- those of the slots, numbered from k, whose numbers are listed
 abbrev pub listed : {A : Type 0} → List ℕ → ℕ → List A → List A
 listed ready k [] = []
-listed ready k (x ∷ xs) = if list_any (nat_eq k) ready then x ∷ listed ready (k + 1) xs else listed ready (k + 1) xs
+listed ready k (x ∷ xs) =
+    if list_any (nat_eq k) ready then x ∷ listed ready (k + 1) xs else listed ready (k + 1) xs
 
 -- the picture of the slots that are listed
 abbrev pub picture_with : Project → PixelGrid → List ℕ → Raster Rgb

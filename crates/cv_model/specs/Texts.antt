@@ -23,7 +23,8 @@ text_of (Cells grid) name feature = None
 abbrev pub has_text : List (List ℕ) → List ℕ → List ℕ → Feature → Bool
 has_text columns name text feature = option_map_or (bytes_eq text) (text_in columns name feature) false
 
--- the text, in the column `name`, of the first of a layer's features that has `key` in the column of that name; a grid has none
+-- the text, in the column `name`, of the first of a layer's features that has `key` in the column of that
+-- name; a grid has none
 abbrev pub joined_in : Contents → List ℕ → List ℕ → List ℕ → Option (List ℕ)
 joined_in (Features columns features) column name key =
     option_and_then (text_in columns name) (find (has_text columns column key) features)
@@ -38,7 +39,10 @@ joined_text own join there name feature =
 abbrev pub field_text : Parts → Field → Feature → Option (List ℕ)
 field_text parts field feature =
     if field.joined
-    then option_and_then (λ join. option_and_then (λ (there : Core). joined_text parts.own.contents join there.contents field.name feature) parts.join) parts.own.join
+    then option_and_then
+    (λ join. option_and_then
+    (λ (there : Core). joined_text parts.own.contents join there.contents field.name feature) parts.join)
+    parts.own.join
     else text_of parts.own.contents field.name feature
 
 -- the text that a style reads; a style without a field reads none

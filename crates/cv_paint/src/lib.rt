@@ -1,7 +1,8 @@
 //! The painter: from features and a symbol to the pixels of a picture.
 //!
 //! Contract: the picture is that of the definitions, at every pixel.
-//! Definitions: `Pictures` of `cv_model`; `Plain`, the project of one layer. Takes memory for the pixels; no handle.
+//! Definitions: `Pictures` of `cv_model`; `Plain`, the project of one layer. Takes memory for the pixels;
+//! no handle.
 #![tactic(auto)]
 
 mod hits;

@@ -32,7 +32,7 @@ const CLEAR: Rgba = Rgba {
 };
 
 /// The pixel of a layer at the centre `p`: the strokes of its features in order.
-#[tactic(auto, using(crate::proofs::Laying::laid_on_append))]
+#[tactic(auto, using(crate::proofs::LayLemmas::laid_on_more))]
 fn layer_pixel(features: &[Feature], symbol: &Symbol, view: &View, p: Point2) -> Rgba
     ensures { result ≡ laid (flat_map
         (λ (feature : Feature). strokes (Some symbol.now) view.now p feature.geometry) features.now) }
@@ -45,7 +45,6 @@ fn layer_pixel(features: &[Feature], symbol: &Symbol, view: &View, p: Point2) ->
 }
 
 /// The pixel of the picture: the layer's pixel on white.
-#[tactic(auto, unfolding(cv_model::specs::Pictures::colour_of, cv_model::specs::Pictures::pixel, cv_model::specs::Texts::feature_symbol, cv_model::specs::Styles::symbol_of))]
 fn colour(features: &FeatureList, symbol: &Symbol, view: &View, i: u32, j: u32) -> Rgb
     requires column { i < view.now.w }
     requires row { j < view.now.h }
@@ -74,7 +73,8 @@ fn paint_row(
     Ok(())
 }
 
-/// The picture of one layer of features with a symbol, over white: `view.w` by `view.h` pixels, rows from the top.
+/// The picture of one layer of features with a symbol, over white: `view.w` by `view.h` pixels, rows from
+/// the top.
 ///
 /// Each feature is tested at each pixel's centre.
 #[tactic(auto, using(cv_model::proofs::Rows::pixels_more, cv_model::proofs::Rows::length_pixels))]

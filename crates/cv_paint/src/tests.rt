@@ -287,8 +287,9 @@ fn a_pen_is_laid_once_for_rings_and_once_for_lines(rt: HostRuntime) -> Result<()
 }
 
 /// A pixel that lies `a` columns and `b` rows from the point's is covered by a square of `size` pixels where
-/// `2 max(a, b) <= size`, by a diamond where `2 (a + b) <= size`, and by a circle where `4 (a a + b b) <= size size`.
-/// Each entry says how many pixels that covers, by this rule, in the rows that lie 0 to 5 rows from the point's.
+/// `2 max(a, b) <= size`, by a diamond where `2 (a + b) <= size`, and by a circle where `4 (a a + b b) <=
+/// size size`. Each entry says how many pixels that covers, by this rule, in the rows that lie 0 to 5 rows
+/// from the point's.
 #[test]
 fn a_marker_covers_its_shape(rt: HostRuntime) -> Result<(), Fail> {
     let alloc = rt.alloc();
