@@ -2,7 +2,7 @@
 #   make build        proves all crates and builds the program, which then stands as crates/canvas/out/canvas
 #   make coast        builds it where that is needed, and paints examples/coast into coast.ppm
 #   make first-map    the same for examples/first-map
-#   make examples     builds it where that is needed, paints all examples and compares them with what they must be
+#   make examples     the same for all examples, and compares them with what they must be
 #   make test         passes all proofs, edits that must be refused, tests, programs, examples and documents
 
 PROGRAM = crates/canvas/out/canvas

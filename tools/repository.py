@@ -1,4 +1,4 @@
-"""What the tools read of this repository: its crates, their public items with the clauses, and the definitions.
+"""What the tools read of this repository: its crates, their public items with clauses, and the definitions.
 
 The sources are read in the layout that `rt fmt` gives them. Nothing here proves anything: `rt ci` does.
 """
@@ -291,7 +291,7 @@ def described(crate, module):
         match = START.match(line)
         if line.lstrip().startswith("--"):
             (head if number == len(head) else sentence).append(line.lstrip()[2:].strip())
-        elif match and not line.startswith("pub mod ") and len(match[1]) <= 2 and not in_record(lines, number):
+        elif match and not line.startswith("pub mod ") and not in_record(lines, number):
             starts.append((number, match[2], " ".join(word for word in sentence if word)))
             sentence = []
         elif not line.strip():
