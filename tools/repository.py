@@ -264,6 +264,26 @@ def public_items(crate):
     return tuple(found.values())
 
 
+@functools.cache
+def aliases(crate):
+    """The public names of a library that stand for another type of it, as `Picture` for one of pixels."""
+    found = {}
+    for path in sorted((TOP / "crates" / crate / "src").rglob("*.rt")):
+        text = blanked(path.read_text())
+        found.update(re.findall(r"^pub type (\w+)(?:<[^=]*>)? = (\w+)", text, re.M))
+    return found
+
+
+def item_of(crate, call):
+    """The public item of this name, which may be a method of an alias; or None."""
+    owner, _, method = call.rpartition("::")
+    names = {call, f"{aliases(crate).get(owner, owner)}::{method}" if owner else call}
+    for item in public_items(crate):
+        if item.path in names or item.name in names:
+            return item
+    return None
+
+
 # Definitions
 
 
