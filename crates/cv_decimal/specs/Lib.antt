@@ -1,6 +1,8 @@
 -- Decimals: their marks, their grammar and value, the machine that reads them, and their written form.
-pub mod Marks
+pub mod Mark
 pub mod Spellings
+pub mod Place
 pub mod Reader
-pub mod Keeping
+pub mod Kept
+pub mod Plain
 pub mod Written

@@ -1,8 +1,10 @@
 //! What is kept of a decimal's numbers while it is read.
 ghost use Rattle.std.specs.Prelude.{◌≡◌, ◌+◌, ◌*◌, ◌^◌, ◌<◌, ◌≤◌, min, length};
+ghost use Rattle.std.specs.List.{prefix_len};
 ghost use Rattle.cv_model.specs.Rounding.{rnd};
+ghost use Rattle.cv_decimal.specs.Mark.{is_digit};
 ghost use Rattle.cv_decimal.specs.Spellings.{fixed};
-ghost use Rattle.cv_decimal.specs.Keeping.{with_digit, with_places, kept_role, settled, kept_worth, nothing_kept, Goes};
+ghost use Rattle.cv_decimal.specs.Kept.{with_digit, with_places, kept_role, settled, kept_worth, nothing_kept, Goes};
 
 use crate::fixed::Fixed;
 use crate::mark::Mark;
@@ -93,6 +95,7 @@ impl Kept {
         ensures dropped { self.new.dropped ≤ self.old.dropped + result }
         ensures places { self.new.places ≡ self.old.places }
         ensures within { result ≤ length text.now }
+        ensures all { result ≡ prefix_len is_digit text.now }
         ensures start { 0 < result → Goes text.now Place.Start self.old result Place.Whole self.new }
         ensures signed { 0 < result → Goes text.now Place.Signed self.old result Place.Whole self.new }
         ensures rest { Goes text.now Place.Dotted self.old result Place.Dotted (with_places result self.new) }
@@ -130,7 +133,7 @@ impl Kept {
 }
 
 /// `digits` times 10^`high` over 10^`low`, or the limit and one where it is above the limit.
-#[tactic(auto, unfolding(crate::specs::Keeping::settled))]
+#[tactic(auto, unfolding(crate::specs::Kept::settled))]
 fn millionths(digits: u64, high: u128, low: u128) -> u64
     requires digits { digits < 2000000000000000000 }
     requires high { high < 2 ^ 100 }

@@ -2,12 +2,12 @@
 //!
 //! Contract: `read` answers the value that the grammar spells, all digits taken as one number and
 //! rounded half away from zero, and else the first byte that can't stand; `write` gives the written
-//! form, which `read` reads back. Definitions: `Spellings`, `Written`, and as a machine `Reader`.
+//! form, which `read` reads back. Definitions: `Spellings`, `Written`, and as a function `Reader`.
 //! `read` takes no memory, goes over a plain text once and over any other twice at most, and keeps 18
 //! digits, whatever the lengths.
 #![tactic(auto)]
 
-ghost use Rattle.std.specs.Prelude.{◌≡◌, ◌↔◌, ℕ, ℤ, [], IfOk, string_bytes};
+ghost use Rattle.std.specs.Prelude.{◌≡◌, ◌↔◌, ℕ, ℤ, List, [], Some, None, IfOk, string_bytes};
 ghost use Rattle.cv_model.specs.Positions.{IsCoordinate};
 ghost use Rattle.std.specs.Result.{result_ok};
 ghost use Rattle.cv_decimal.specs.Spellings.{Spells, IsBadByte, IsInRange};
@@ -27,9 +27,10 @@ use std::alloc::{AllocError, Global};
 
 /// The value of a decimal, rounded half away from zero to whole millionths.
 ///
-/// The grammar is this project's own: an optional `+` or `-`, then `nan` in any case, or a mantissa
-/// and an optional exponent. The mantissa is digits, or digits and a point, or digits, a point and
-/// digits, or a point and digits. The exponent is `e` or `E`, an optional sign, and digits.
+/// A decimal is an optional `+` or `-`, then `nan` in any case, or a mantissa and an optional exponent. The
+/// mantissa is digits, or digits and a point, or digits, a point and digits, or a point and digits. The
+/// exponent is `e` or `E`, an optional sign, and digits. Source: the decimals of `strtod` in ISO C (C17,
+/// 7.22.1.3), without white space in front, hexadecimals and infinities; the rounding is this project's own.
 #[tactic(auto, unfolding(crate::specs::Reader::decimal_of))]
 pub fn read(text: &[u8]) -> Result<Fixed, DecimalError>
     ensures found { IfOk result (Spells text.now) }
@@ -65,6 +66,13 @@ pub fn write(alloc: Global, millionths: i64) -> Result<String, AllocError>
     written::push_size(&mut text, millionths.unsigned_abs())?;
     Ok(text)
 }
+
+/// The function that the grammars of other texts cite says what the grammar of decimals says: a value
+/// exactly where the text spells it, and none exactly where it spells none.
+pub fn decimals_are_spelt()
+    ensures value { (text : List ℕ) (v : Fixed) → (decimal_of text ≡ Some v) ↔ Spells text v }
+    ensures none { (text : List ℕ) → (decimal_of text ≡ None) ↔ ((v : Fixed) → Spells text v → ⊥) }
+{}
 
 /// What is written is read back: the written form of a number in the range of values spells that value.
 pub fn written_is_read()

@@ -1,6 +1,6 @@
 //! The loop over a decimal's bytes.
 ghost use Rattle.std.specs.Prelude.{◌≡◌};
-ghost use Rattle.cv_decimal.specs.Keeping.{nothing_kept, answer_at};
+ghost use Rattle.cv_decimal.specs.Kept.{nothing_kept, answer_at};
 
 use crate::fixed::Fixed;
 use crate::kept::Kept;

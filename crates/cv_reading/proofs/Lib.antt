@@ -1,5 +1,5 @@
 -- The lemmas of the recipe, cited by the readers above.
-pub mod Reading
-pub mod Running
-pub mod Watching
-pub mod Cutting
+pub mod ReadingLemmas
+pub mod MachineLemmas
+pub mod WatchLemmas
+pub mod TokenLemmas

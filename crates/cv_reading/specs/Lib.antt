@@ -1,4 +1,5 @@
 -- Machines that read tokens, the grammars that they read, and the tokens of a text.
+pub mod Space
 pub mod Machines
 pub mod Readings
 pub mod Watches

@@ -1,5 +1,6 @@
 -- Machines that read a list of tokens, one at a time.
-use Rattle.std.specs.Prelude.{◌≡◌, ℕ, suc, ◌+◌, ◌<◌, ◌≤◌, List, [], ◌∷◌, Option, Some, None, Result, Ok, Err, option_and_then}
+use Rattle.std.specs.Prelude.{◌≡◌, ℕ, suc, ◌+◌, ◌<◌, ◌≤◌, List, [], ◌∷◌, Option, Some, None, Result, Ok, Err}
+use Rattle.std.specs.Prelude.{option_and_then}
 
 -- states S, tokens A, values V
 pub record Machine (S A V : Type 0) : Type 0 where
@@ -50,6 +51,8 @@ StepsAlike R (Some s) (Some t) = R s t
 StepsAlike R _ _ = ⊥
 
 -- R relates the states of two machines behind the same tokens; its number is how many they are, at most n
-pub record GoAlike {S T A V : Type 0} (n : ℕ) (R : ℕ → S → T → Type 0) (m : Machine S A V) (k : Machine T A V) : Type 0 where
-  pub step : (i : ℕ) (s : S) (t : T) (a : A) → i < n → R i s t → StepsAlike (R (suc i)) (m.step s a) (k.step t a)
+pub record GoAlike {S T A V : Type 0} (n : ℕ) (R : ℕ → S → T → Type 0) (m : Machine S A V)
+    (k : Machine T A V) : Type 0 where
+  pub step : (i : ℕ) (s : S) (t : T) (a : A) → i < n → R i s t
+      → StepsAlike (R (suc i)) (m.step s a) (k.step t a)
   pub ends : (i : ℕ) (s : S) (t : T) → i ≤ n → R i s t → m.ends s ≡ k.ends t

@@ -1,5 +1,6 @@
 -- Machines whose refusals have names, and which stop at limits that the grammar doesn't have.
-use Rattle.std.specs.Prelude.{◌≡◌, ℕ, suc, ◌+◌, ◌≤◌, List, [], ◌∷◌, length, take, drop, Option, Some, None, Result, Ok, Err, IfSome}
+use Rattle.std.specs.Prelude.{◌≡◌, ℕ, suc, ◌+◌, ◌≤◌, List, [], ◌∷◌, length, take, drop, Option, Some, None}
+use Rattle.std.specs.Prelude.{Result, Ok, Err, IfSome}
 use Rattle.cv_reading.specs.Machines.{Machine, run, after}
 
 -- causes C
@@ -31,7 +32,8 @@ watched_end early None = Err (StopAt 0 early)
 watched_end early (Some v) = Ok v
 
 -- the answer at a token: the grammar's refusal before the limit's, and both before those of further tokens
-abbrev pub watched_step : {S V C : Type 0} → (S → Result V (Stop C)) → C → Option C → Option S → Result V (Stop C)
+abbrev pub watched_step : {S V C : Type 0} → (S → Result V (Stop C)) → C → Option C → Option S
+    → Result V (Stop C)
 watched_step answer cause limit None = Err (StopAt 0 cause)
 watched_step answer cause (Some c) (Some s) = Err (StopAt 0 c)
 watched_step answer cause None (Some s) = stop_one_further (answer s)
@@ -57,7 +59,8 @@ StopsFor m k s [] c = (m.ends s ≡ None) × (c ≡ k.early s)
 StopsFor m k s (a ∷ w) c = RefusesFor (k.cause s a) (k.limit s a) (m.step s a) c
 
 -- the tokens before `at` can stand and meet no limit, and what is next is refused for the cause
-pub record IsFirstStop {S A V C : Type 0} (m : Machine S A V) (k : Watch S A C) (text : List A) (s : S) (at : ℕ) (c : C) : Type 0 where
+pub record IsFirstStop {S A V C : Type 0} (m : Machine S A V) (k : Watch S A C) (text : List A) (s : S)
+    (at : ℕ) (c : C) : Type 0 where
   pub within : at ≤ length text
   pub state : S
   pub reached : after m (take at text) s ≡ Some state
@@ -65,6 +68,7 @@ pub record IsFirstStop {S A V C : Type 0} (m : Machine S A V) (k : Watch S A C) 
   pub stops : StopsFor m k state (drop at text) c
 
 -- what an answer says of the text
-abbrev pub IsWatched : {S A V C : Type 0} → Machine S A V → Watch S A C → List A → S → Result V (Stop C) → Type 0
+abbrev pub IsWatched : {S A V C : Type 0} → Machine S A V → Watch S A C → List A → S → Result V (Stop C)
+    → Type 0
 IsWatched m k text s (Ok v) = (run m text s ≡ Ok v) × IsUnlimited m k text s
 IsWatched m k text s (Err (StopAt at c)) = IsFirstStop m k text s at c

@@ -7,8 +7,8 @@ use Rattle.cv_model.specs.declared.geometry.WktError.{WktError}
 use Rattle.cv_reading.specs.Machines.{after}
 use Rattle.cv_reading.specs.Readings.{IsFirstWrong}
 use Rattle.cv_reading.specs.Watches.{Stop, StopAt, IsUnlimited, IsWatched, watched}
-use Rattle.cv_reading.proofs.Running.{ends_at}
-use Rattle.cv_reading.proofs.Watching.{is_watched}
+use Rattle.cv_reading.proofs.MachineLemmas.{ends_at}
+use Rattle.cv_reading.proofs.WatchLemmas.{is_watched}
 use Rattle.cv_wkt.specs.declared.place.Cause.{Cause}
 use Rattle.cv_wkt.specs.declared.place.Cause.TheVariants.{Unexpected, Curved, Beyond, Deep, Full}
 use Rattle.cv_wkt.specs.Kinds.{kind_of, tokens_of}

@@ -5,7 +5,7 @@ use Rattle.std.proofs.lemmas.List.Sums.{sum_by-append, fold-append}
 use Rattle.std.proofs.Common.{cond}
 use Rattle.cv_reading.specs.Machines.{after}
 use Rattle.cv_reading.specs.Watches.{IsUnlimited}
-use Rattle.cv_reading.proofs.Running.{after_push, kept_along}
+use Rattle.cv_reading.proofs.MachineLemmas.{after_push, kept_along}
 use Rattle.cv_decimal.specs.declared.fixed.Fixed.TheVariants.{Value}
 use Rattle.cv_wkt.specs.declared.kind.Word.{Word}
 use Rattle.cv_wkt.specs.declared.kind.Word.TheVariants.{Point, LineString, Polygon, MultiPoint, MultiLineString, MultiPolygon, Collection}

@@ -4,7 +4,7 @@ use Rattle.cv_decimal.specs.Reader.{decimal_of}
 use Rattle.cv_model.specs.Geometries.{GeometryLists}
 use Rattle.cv_reading.specs.Machines.{run}
 use Rattle.cv_reading.specs.Readings.{Reads, IsReading}
-use Rattle.cv_reading.proofs.Reading.{is_reading, same_reading}
+use Rattle.cv_reading.proofs.ReadingLemmas.{is_reading, same_reading}
 use Rattle.cv_decimal.specs.declared.fixed.Fixed.{Fixed}
 use Rattle.cv_decimal.specs.declared.fixed.Fixed.TheVariants.{Value}
 use Rattle.cv_wkt.specs.declared.kind.Word.TheVariants.{Point}

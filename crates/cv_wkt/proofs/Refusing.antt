@@ -4,9 +4,9 @@ use Rattle.cv_decimal.specs.Reader.{decimal_of}
 use Rattle.cv_reading.specs.Machines.{after, IsStuck}
 use Rattle.cv_reading.specs.Readings.{Begins, IsFirstWrong}
 use Rattle.cv_reading.specs.Watches.{RefusesFor, StopsFor, IsFirstStop}
-use Rattle.cv_reading.proofs.Reading.{begins_behind, leads_begun}
-use Rattle.cv_reading.proofs.Running.{after_push}
-use Rattle.cv_reading.proofs.Watching.{stuck_at_stop}
+use Rattle.cv_reading.proofs.ReadingLemmas.{begins_behind, leads_begun}
+use Rattle.cv_reading.proofs.MachineLemmas.{after_push}
+use Rattle.cv_reading.proofs.WatchLemmas.{stuck_at_stop}
 use Rattle.cv_decimal.specs.declared.fixed.Fixed.TheVariants.{Value, High, Low, NotNumber}
 use Rattle.cv_wkt.specs.declared.kind.Word.TheVariants.{Point, Collection}
 use Rattle.cv_wkt.specs.declared.kind.Kind.{Kind}

@@ -6,7 +6,7 @@ use Rattle.cv_model.specs.Geometries.{GeometryLists}
 use Rattle.cv_model.specs.declared.geometry.WktError.{WktError}
 use Rattle.cv_reading.specs.Tokens.{ByteKind, White, Single, Word, Token, is_word, cut}
 use Rattle.cv_reading.specs.Watches.{Stop, StopAt, stop_one_further, watched, watched_step}
-use Rattle.cv_reading.proofs.Cutting.{cut_white, cut_single, cut_word}
+use Rattle.cv_reading.proofs.TokenLemmas.{cut_white, cut_single, cut_word}
 use Rattle.cv_wkt.specs.declared.kind.Kind.{Kind}
 use Rattle.cv_wkt.specs.declared.place.Cause.{Cause}
 use Rattle.cv_wkt.specs.Kinds.{byte_kind, kind_of}

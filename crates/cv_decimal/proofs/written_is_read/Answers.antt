@@ -1,7 +1,7 @@
 use Rattle.cv_decimal.specs.declared.fixed.Fixed.TheVariants.{Value}
 use Rattle.cv_decimal.specs.Written.{written}
-use Rattle.cv_decimal.proofs.Values.{decimal_of_spelt}
-use Rattle.cv_decimal.proofs.Writing.{written_spelt}
+use Rattle.cv_decimal.proofs.ValueLemmas.{decimal_of_spelt}
+use Rattle.cv_decimal.proofs.WrittenLemmas.{written_spelt}
 use Rattle.cv_decimal.proofs.written_is_read.Goals as goal
 
 pub returns-clause-spelt : goal.returns-clause-spelt

@@ -1,4 +1,4 @@
-use Rattle.cv_decimal.proofs.Scanning.{Along}
+use Rattle.cv_decimal.proofs.ScanLemmas.{Along}
 use Rattle.cv_decimal.proofs.scan.scan_any.Given as goal
 
 abbrev pub invariant-loop-at : goal.invariant-loop-at

@@ -1,5 +1,5 @@
 use Rattle.std.proofs.Common.{string_bytes}
-use Rattle.cv_decimal.proofs.Writing.{Placing}
+use Rattle.cv_decimal.proofs.WrittenLemmas.{Placing}
 use Rattle.cv_decimal.proofs.written.push_places.Given as goal
 
 abbrev pub invariant-loop-rest : goal.invariant-loop-rest

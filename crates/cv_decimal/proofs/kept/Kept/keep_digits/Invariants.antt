@@ -1,4 +1,4 @@
-use Rattle.cv_decimal.proofs.Digits.{Kept_digits}
+use Rattle.cv_decimal.proofs.DigitLemmas.{Kept_digits}
 use Rattle.cv_decimal.proofs.kept.Kept.keep_digits.Given as goal
 
 abbrev pub invariant-loop-at : goal.invariant-loop-at
