@@ -274,6 +274,17 @@ def aliases(crate):
     return found
 
 
+def models(crate):
+    """The public types of a library that contracts see as another value, each with that value."""
+    names = {item.path.split("::")[-1] for item in public_items(crate) if item.kind == "type"}
+    pattern = r"^impl\b(?:<[^{]*?>)? Model for (\w+)[^{]*\{(.*?)^\}"
+    for path in sorted((TOP / "crates" / crate / "src").rglob("*.rt")):
+        for name, body in re.findall(pattern, path.read_text(), re.M | re.S):
+            value = re.search(r"ghost Value = \{ (.*?) \};", body, re.S)
+            if value and name in names:
+                yield name, " ".join(value[1].split())
+
+
 def item_of(crate, call):
     """The public item of this name, which may be a method of an alias; or None."""
     owner, _, method = call.rpartition("::")
