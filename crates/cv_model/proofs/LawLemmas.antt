@@ -1,5 +1,5 @@
 -- The laws of edits, parts, pictures and colours.
-use Rattle.std.proofs.Common.{◌≡◌, ◌∙◌, sym, ap, refl, ℕ, ◌+◌, ◌-◌, ◌*◌, ◌/◌, ◌<◌, ◌==◌, false, true, List, [], ◌∷◌, ◌++◌, Option, Some, None, arith}
+use Rattle.std.proofs.Common.{◌≡◌, ◌∙◌, sym, ap, refl, ℕ, ◌+◌, ◌-◌, ◌*◌, ◌/◌, ◌<◌, ◌==◌, false, List, [], ◌∷◌, ◌++◌, Option, Some, None, arith}
 use Rattle.std.specs.Prelude.{find, nat_eq, option_map, option_and_then, if◌then◌else◌}
 use Rattle.std.specs.List.{list_any, flat_map}
 use Rattle.std.specs.Option.{option_map_or, option_to_list}
@@ -20,7 +20,7 @@ use Rattle.cv_model.specs.Blends.{mixed}
 use Rattle.cv_model.specs.Styles.{symbol_of}
 use Rattle.cv_model.specs.Texts.{text_of, joined_text, field_text, style_text, feature_symbol}
 use Rattle.cv_model.specs.Pictures.{strokes, is_shown, cell_colour, painted, pixel}
-use Rattle.cv_model.specs.Layers.{Contents, Features, Cells, Core, Layer, Project, Parts, is_layer, core_in, parts, parts_among, deps, deps_of}
+use Rattle.cv_model.specs.Layers.{Contents, Features, Cells, Core, Layer, Parts, is_layer, core_in, parts, parts_among, deps_of}
 use Rattle.cv_model.specs.Edits.{touched, touches_any, step_layers, step}
 use Rattle.cv_model.specs.Laws.{UntouchedPartsStay, FrameEditsLeaveParts, UntouchedDepsStay, AbsentMasksShowAll, AbsentJoinsGiveNothing, OpaqueHidesBackdrop, OpaqueHidesBelow, OverNothingStays}
 use Rattle.cv_model.proofs.EditLemmas.{Leaves, core_of, core_stays, leaves_first, leaves_rest, found_is}
@@ -211,6 +211,6 @@ absent_joins_give_nothing layers own join view i j none =
     let more = parts_among layers (record own { join = None }) in
     ap (λ c. if is_shown p some.mask then c else transparent)
     (painted_alike own.contents own.style some more view p refl refl
-        (λ field feature. ap (λ o. if field.joined
-            then option_and_then (λ (there : Core). joined_text own.contents join there.contents field.name feature) o
-            else text_of own.contents field.name feature) none))
+    (λ field feature. ap (λ o. if field.joined
+    then option_and_then (λ (there : Core). joined_text own.contents join there.contents field.name feature) o
+    else text_of own.contents field.name feature) none))

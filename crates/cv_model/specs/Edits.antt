@@ -1,6 +1,6 @@
 -- Edits: which are refused and why, and what the accepted ones change.
-use Rattle.std.specs.Prelude.{ℕ, suc, ◌+◌, ◌-◌, ◌*◌, ◌==◌, nat_lt, nat_le, nat_eq, Bool, true, false, not, ◌&&◌, ◌||◌, if◌then◌else◌, List, [], ◌∷◌, ◌++◌, map, filter, find, position, insert, set, length, sum_by, take, fold, bytes_eq, Option, Some, None, option_map, option_and_then, is_some, is_none}
-use Rattle.std.specs.List.{list_any, list_all}
+use Rattle.std.specs.Prelude.{ℕ, suc, ◌+◌, ◌*◌, ◌==◌, nat_lt, nat_le, nat_eq, Bool, true, false, not, ◌&&◌, ◌||◌, if◌then◌else◌, List, [], ◌∷◌, ◌++◌, map, filter, find, position, insert, set, length, sum_by, take, fold, bytes_eq, Option, Some, None, option_map, is_none}
+use Rattle.std.specs.List.{list_any}
 use Rattle.std.specs.Option.{option_map_or}
 use Rattle.cv_model.specs.declared.colour.Rgb.{Rgb}
 use Rattle.cv_model.specs.declared.edit.Edit.{Edit}
@@ -10,7 +10,7 @@ use Rattle.cv_model.specs.declared.edit.EditError.TheVariants.{UnknownLayer, Unk
 use Rattle.cv_model.specs.declared.feature.Feature.{Feature}
 use Rattle.cv_model.specs.declared.grid.Cell.{Cell}
 use Rattle.cv_model.specs.declared.style.Style.{Style}
-use Rattle.cv_model.specs.Geometries.{GeometryLists, vertices_of}
+use Rattle.cv_model.specs.Geometries.{vertices_of}
 use Rattle.cv_model.specs.Grids.{CellGrid}
 use Rattle.cv_model.specs.Layers.{Contents, Features, Cells, Core, Layer, Project, is_layer, has_layer, core_in, contents_of, layer_of_new}
 use Rattle.cv_model.specs.ProjectFiles.{is_ramp}

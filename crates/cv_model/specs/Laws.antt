@@ -1,5 +1,5 @@
 -- What holds of edits, parts and pictures whatever the project: laws, each the clause of a function of its name.
-use Rattle.std.specs.Prelude.{◌≡◌, ℕ, ◌<◌, false, List, [], ◌∷◌, Option, Some, None}
+use Rattle.std.specs.Prelude.{◌≡◌, ℕ, ◌<◌, false, List, [], ◌∷◌, Some, None}
 use Rattle.cv_model.specs.declared.blend.Blend.TheVariants.{Normal}
 use Rattle.cv_model.specs.declared.colour.Rgb.{Rgb}
 use Rattle.cv_model.specs.declared.colour.Rgba.{Rgba}
@@ -8,8 +8,8 @@ use Rattle.cv_model.specs.declared.layer.Join.{Join}
 use Rattle.cv_model.specs.Views.{PixelGrid}
 use Rattle.cv_model.specs.Colours.{over, opaque}
 use Rattle.cv_model.specs.Blends.{merge}
-use Rattle.cv_model.specs.Layers.{Core, Layer, Project, core_in, parts, parts_among, deps, slots}
-use Rattle.cv_model.specs.Pictures.{pixel, picture, colour_of}
+use Rattle.cv_model.specs.Layers.{Core, Layer, Project, core_in, parts, parts_among, deps}
+use Rattle.cv_model.specs.Pictures.{pixel, colour_of}
 use Rattle.cv_model.specs.Edits.{touched, touches_any, step}
 
 -- an edit that touches none of the layers on which a layer depends leaves its parts

@@ -1,9 +1,8 @@
 -- A project: its background and its layers.
-use Rattle.std.specs.Prelude.{ℕ, Bool, true, ◌==◌, ◌&&◌, List, [], ◌∷◌, ◌++◌, map, filter, reverse, find, Option, Some, None, option_map, option_and_then}
+use Rattle.std.specs.Prelude.{ℕ, Bool, ◌==◌, ◌&&◌, List, [], ◌∷◌, ◌++◌, filter, reverse, find, Option, option_map, option_and_then}
 use Rattle.std.specs.List.{list_any}
 use Rattle.std.specs.Option.{option_to_list, option_map_or}
 use Rattle.cv_model.specs.declared.blend.Blend.{Blend}
-use Rattle.cv_model.specs.declared.blend.Blend.TheVariants.{Normal}
 use Rattle.cv_model.specs.declared.colour.Rgb.{Rgb}
 use Rattle.cv_model.specs.declared.feature.Feature.{Feature}
 use Rattle.cv_model.specs.declared.layer.Join.{Join}
@@ -12,7 +11,6 @@ use Rattle.cv_model.specs.declared.layer.LayerData.TheVariants.{Text, Grid}
 use Rattle.cv_model.specs.declared.layer.NewLayer.{NewLayer}
 use Rattle.cv_model.specs.declared.project.CanvasSpec.{CanvasSpec}
 use Rattle.cv_model.specs.declared.style.Style.{Style}
-use Rattle.cv_model.specs.Features.{FeatureTable}
 use Rattle.cv_model.specs.Grids.{CellGrid}
 use Rattle.cv_model.specs.Scales.{ScaleBounds, holds_scale}
 use Rattle.cv_model.specs.Views.{PixelGrid}

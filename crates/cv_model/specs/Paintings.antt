@@ -1,5 +1,5 @@
 -- Painted layers and composed pictures: what an image is made from, and which image that is.
-use Rattle.std.specs.Prelude.{ℕ, List, [], ◌∷◌, map, zip, filter_map, Option, option_map}
+use Rattle.std.specs.Prelude.{ℕ, List, map, zip, filter_map, Option, option_map}
 use Rattle.cv_model.specs.declared.blend.Blend.{Blend}
 use Rattle.cv_model.specs.declared.colour.Rgb.{Rgb}
 use Rattle.cv_model.specs.declared.colour.Rgba.{Rgba}

@@ -1,7 +1,7 @@
 -- What is painted: the strokes of a feature, a layer's pixel, and the picture of a project at a view.
 --
 -- Source: this project's own; colours are laid and merged by W3C Compositing and Blending Level 1.
-use Rattle.std.specs.Prelude.{ℕ, ◌+◌, Bool, true, false, nat_eq, if◌then◌else◌, ℤ, pos, ◌*ℤ◌, List, [], ◌∷◌, ◌++◌, map, fold, zip, filter_map, Option, Some, None, option_map}
+use Rattle.std.specs.Prelude.{ℕ, ◌+◌, Bool, true, false, nat_eq, if◌then◌else◌, ℤ, pos, ◌*ℤ◌, List, [], ◌∷◌, ◌++◌, map, Option, Some, None}
 use Rattle.std.specs.List.{flat_map, list_any}
 use Rattle.std.specs.Option.{option_map_or}
 use Rattle.cv_model.specs.declared.colour.Rgb.{Rgb}

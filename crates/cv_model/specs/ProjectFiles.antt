@@ -1,5 +1,5 @@
 -- Project files in form: what is read, and what can be written and opened.
-use Rattle.std.specs.Prelude.{◌≡◌, ℕ, ◌*◌, ◌≤◌, true, false, Bool, ℤ, ◌<ℤ◌, List, map, length, All, Option, IfSome}
+use Rattle.std.specs.Prelude.{◌≡◌, ℕ, ◌*◌, ◌≤◌, true, false, Bool, ◌<ℤ◌, List, map, length, All, IfSome}
 use Rattle.std.specs.List.{IsDistinct}
 use Rattle.std.specs.Prelude.{nat_eq}
 use Rattle.cv_model.specs.declared.colour.Rgb.{Rgb}
@@ -8,7 +8,6 @@ use Rattle.cv_model.specs.declared.project.CanvasFile.{CanvasFile}
 use Rattle.cv_model.specs.declared.project.LayerFile.{LayerFile}
 use Rattle.cv_model.specs.declared.project.Source.{Source}
 use Rattle.cv_model.specs.declared.project.Source.TheVariants.{Text, Grid}
-use Rattle.cv_model.specs.declared.style.Field.{Field}
 use Rattle.cv_model.specs.declared.style.Range.{Range}
 use Rattle.cv_model.specs.declared.style.Style.{Style}
 use Rattle.cv_model.specs.declared.style.Style.TheVariants.{Single, Categorised, Graduated, Ramp}

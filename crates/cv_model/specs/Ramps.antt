@@ -1,7 +1,7 @@
 -- Ramps: the colour of a grid's number.
 --
 -- Source: this project's own; between two stops each channel goes in proportion, rounded to the nearest, a half upwards.
-use Rattle.std.specs.Prelude.{ℕ, ◌+◌, ◌*◌, ◌≤◌, Bool, if◌then◌else◌, ℤ, ◌<ℤ◌, int_lt, int_le, List, [], ◌∷◌, length, All, Option, find}
+use Rattle.std.specs.Prelude.{ℕ, ◌+◌, ◌*◌, ◌≤◌, Bool, if◌then◌else◌, ℤ, ◌<ℤ◌, int_lt, int_le, List, [], ◌∷◌, length, All, find}
 use Rattle.std.specs.Ordering.{int_eq}
 use Rattle.std.specs.Option.{option_map_or}
 use Rattle.cv_number.specs.Rounding.{rnd}

@@ -1,5 +1,5 @@
 -- Which text of a feature a style reads.
-use Rattle.std.specs.Prelude.{ℕ, Bool, List, [], find, position, slice_get, bytes_eq, Option, None, option_and_then, if◌then◌else◌, false}
+use Rattle.std.specs.Prelude.{ℕ, Bool, List, find, position, slice_get, bytes_eq, Option, None, option_and_then, if◌then◌else◌, false}
 use Rattle.std.specs.Option.{option_map_or}
 use Rattle.cv_model.specs.declared.feature.Feature.{Feature}
 use Rattle.cv_model.specs.declared.layer.Join.{Join}

@@ -1,5 +1,6 @@
 -- Numbers as texts: rounding, the marks of decimals, their grammar and value, and the machine that reads them.
 pub mod Rounding
-pub mod Marks
+pub mod Mark
 pub mod Spellings
+pub mod Place
 pub mod Reader

@@ -1,51 +1,18 @@
--- The machine that reads decimals: places in a spelling, and the numbers read so far, of any size.
-use Rattle.std.specs.Prelude.{ℕ, ◌+◌, ◌*◌, ◌^◌, Bool, true, false, if◌then◌else◌, List, Option, Some, None, option_map}
+-- The machine that reads decimals: a place in a spelling, and the numbers read so far, of any size.
+use Rattle.std.specs.Prelude.{ℕ, ◌+◌, ◌*◌, ◌^◌, Bool, true, false, if◌then◌else◌, List, Option}
+use Rattle.std.specs.Prelude.{option_map}
 use Rattle.std.specs.Result.{result_ok}
 use Rattle.cv_number.specs.Rounding.{rnd}
 use Rattle.cv_reading.specs.Machines.{Machine, run}
-use Rattle.cv_number.specs.declared.mark.Mark.{Mark}
-use Rattle.cv_number.specs.declared.mark.Mark.TheVariants.{Digit, Point, Plus, Minus, LetterE, LetterN, LetterA}
 use Rattle.cv_number.specs.declared.place.Place.{Place}
-use Rattle.cv_number.specs.declared.place.Place.TheVariants.{Start, Signed, OneLetter, TwoLetters, Nan, Whole, Bare, Dotted, Marked, MarkedSigned, Powered}
+use Rattle.cv_number.specs.declared.place.Place.TheVariants.{Start}
 use Rattle.cv_number.specs.declared.place.Role.{Role}
-use Rattle.cv_number.specs.declared.place.Role.TheVariants.{Form, Negative, WholeDigit, RestDigit, Lowering, PowerDigit}
+use Rattle.cv_number.specs.declared.place.Role.TheVariants.{Form, Negative, WholeDigit, RestDigit, Lowering}
+use Rattle.cv_number.specs.declared.place.Role.TheVariants.{PowerDigit}
 use Rattle.cv_number.specs.declared.fixed.Fixed.{Fixed}
-use Rattle.cv_number.specs.declared.fixed.Fixed.TheVariants.{NotNumber}
-use Rattle.cv_number.specs.Marks.{mark_of}
+use Rattle.cv_number.specs.Mark.{mark_of}
 use Rattle.cv_number.specs.Spellings.{fixed}
-
--- the place behind a mark, and what the mark says there; None where it can't stand
-abbrev pub next_of : Place → Mark → Option (Place × Role)
-next_of Start Plus = Some (Signed, Form)
-next_of Start Minus = Some (Signed, Negative)
-next_of Start (Digit d) = Some (Whole, WholeDigit d)
-next_of Start Point = Some (Bare, Form)
-next_of Start LetterN = Some (OneLetter, Form)
-next_of Signed (Digit d) = Some (Whole, WholeDigit d)
-next_of Signed Point = Some (Bare, Form)
-next_of Signed LetterN = Some (OneLetter, Form)
-next_of OneLetter LetterA = Some (TwoLetters, Form)
-next_of TwoLetters LetterN = Some (Nan, Form)
-next_of Whole (Digit d) = Some (Whole, WholeDigit d)
-next_of Whole Point = Some (Dotted, Form)
-next_of Whole LetterE = Some (Marked, Form)
-next_of Bare (Digit d) = Some (Dotted, RestDigit d)
-next_of Dotted (Digit d) = Some (Dotted, RestDigit d)
-next_of Dotted LetterE = Some (Marked, Form)
-next_of Marked Plus = Some (MarkedSigned, Form)
-next_of Marked Minus = Some (MarkedSigned, Lowering)
-next_of Marked (Digit d) = Some (Powered, PowerDigit d)
-next_of MarkedSigned (Digit d) = Some (Powered, PowerDigit d)
-next_of Powered (Digit d) = Some (Powered, PowerDigit d)
-next_of _ _ = None
-
--- what a text that ends at the place is worth, where the numbers read are worth v
-abbrev pub worth_at : Place → Fixed → Option Fixed
-worth_at Nan v = Some NotNumber
-worth_at Whole v = Some v
-worth_at Dotted v = Some v
-worth_at Powered v = Some v
-worth_at _ v = None
+use Rattle.cv_number.specs.Place.{next_of, worth_at}
 
 -- a place, and what is known of the numbers there
 pub record At (X : Type 0) : Type 0 where
@@ -55,7 +22,8 @@ pub record At (X : Type 0) : Type 0 where
 -- the machine that goes by the table of places, and to whose parts each mark adds what it says
 abbrev pub going : {X : Type 0} → (Role → X → X) → (X → Fixed) → Machine (At X) ℕ Fixed
 going adds worth = record {
-  step = λ s b. option_map (λ r. record { place = r.0; parts = adds r.1 s.parts }) (next_of s.place (mark_of b));
+  step = λ s b. option_map (λ r. record { place = r.0; parts = adds r.1 s.parts })
+      (next_of s.place (mark_of b));
   ends = λ s. worth_at s.place (worth s.parts);
 }
 
@@ -67,6 +35,7 @@ pub record Parts : Type 0 where
   pub lowers : Bool
   pub power : ℕ
 
+-- the numbers with what a mark says
 abbrev pub with_role : Role → Parts → Parts
 with_role Form x = x
 with_role Negative x = record x { negative = true }
@@ -75,13 +44,17 @@ with_role (RestDigit d) x = record x { number = 10 * x.number + d; places = x.pl
 with_role Lowering x = record x { lowers = true }
 with_role (PowerDigit d) x = record x { power = 10 * x.power + d }
 
+-- what they are worth, in millionths
 abbrev pub worth : Parts → Fixed
 worth x =
-    fixed x.negative (rnd (x.number * 10 ^ (6 + (if x.lowers then 0 else x.power))) (10 ^ (x.places + (if x.lowers then x.power else 0))))
+    fixed x.negative (rnd (x.number * 10 ^ (6 + (if x.lowers then 0 else x.power)))
+    (10 ^ (x.places + (if x.lowers then x.power else 0))))
 
+-- before the first mark
 abbrev pub nothing_read : Parts
 nothing_read = record { negative = false; number = 0; places = 0; lowers = false; power = 0 }
 
+-- the machine that keeps all digits, however many
 abbrev pub decimal_reader : Machine (At Parts) ℕ Fixed
 decimal_reader = going with_role worth
 

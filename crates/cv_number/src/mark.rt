@@ -1,6 +1,6 @@
 //! The marks that a decimal consists of.
-ghost use Rattle.std.specs.Prelude.{◌≡◌, IfSome};
-ghost use Rattle.cv_number.specs.Marks.{mark_of};
+ghost use Rattle.std.specs.Prelude.{◌≡◌, ◌-◌, IfSome, is_some};
+ghost use Rattle.cv_number.specs.Mark.{is_digit, mark_of};
 
 /// What a byte stands for in a decimal. Letters are read in any case.
 #[derive(Clone, Copy)]
@@ -20,8 +20,10 @@ impl Mark {
     pub fn of(byte: u8) -> Mark
         ensures { result ≡ mark_of byte }
     {
+        if let Some(digit) = Mark::digit(byte) {
+            return Mark::Digit(digit);
+        }
         match byte {
-            b'0'..=b'9' => Mark::Digit(byte - b'0'),
             b'.' => Mark::Point,
             b'+' => Mark::Plus,
             b'-' => Mark::Minus,
@@ -32,10 +34,11 @@ impl Mark {
         }
     }
 
-    /// The digit that a byte stands for, where it is one: the same without a table.
+    /// The digit that a byte stands for, where it is one.
     #[inline]
     pub fn digit(byte: u8) -> Option<u8>
-        ensures { IfSome result (λ d. mark_of byte ≡ Mark.Digit d) }
+        ensures digit { is_some result ≡ is_digit byte }
+        ensures value { IfSome result (λ d. d ≡ byte - 48) }
     {
         if byte.is_ascii_digit() {
             Some(byte - b'0')

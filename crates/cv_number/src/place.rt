@@ -1,6 +1,6 @@
 //! The places in a decimal's spelling, and the marks that may follow each.
 ghost use Rattle.std.specs.Prelude.{◌≡◌};
-ghost use Rattle.cv_number.specs.Reader.{next_of, worth_at};
+ghost use Rattle.cv_number.specs.Place.{next_of, worth_at};
 
 use crate::fixed::Fixed;
 use crate::mark::Mark;

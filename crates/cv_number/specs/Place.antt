@@ -1,17 +1,17 @@
 -- The places in a decimal's spelling, and the marks that may follow each.
 use Rattle.std.specs.Prelude.{Option, Some, None}
-use Rattle.cv_decimal.specs.declared.mark.Mark.{Mark}
-use Rattle.cv_decimal.specs.declared.mark.Mark.TheVariants.{Digit, Point, Plus, Minus, LetterE, LetterN}
-use Rattle.cv_decimal.specs.declared.mark.Mark.TheVariants.{LetterA}
-use Rattle.cv_decimal.specs.declared.place.Place.{Place}
-use Rattle.cv_decimal.specs.declared.place.Place.TheVariants.{Start, Signed, OneLetter, TwoLetters, Nan}
-use Rattle.cv_decimal.specs.declared.place.Place.TheVariants.{Whole, Bare, Dotted, Marked, MarkedSigned}
-use Rattle.cv_decimal.specs.declared.place.Place.TheVariants.{Powered}
-use Rattle.cv_decimal.specs.declared.place.Role.{Role}
-use Rattle.cv_decimal.specs.declared.place.Role.TheVariants.{Form, Negative, WholeDigit, RestDigit, Lowering}
-use Rattle.cv_decimal.specs.declared.place.Role.TheVariants.{PowerDigit}
-use Rattle.cv_decimal.specs.declared.fixed.Fixed.{Fixed}
-use Rattle.cv_decimal.specs.declared.fixed.Fixed.TheVariants.{NotNumber}
+use Rattle.cv_number.specs.declared.mark.Mark.{Mark}
+use Rattle.cv_number.specs.declared.mark.Mark.TheVariants.{Digit, Point, Plus, Minus, LetterE, LetterN}
+use Rattle.cv_number.specs.declared.mark.Mark.TheVariants.{LetterA}
+use Rattle.cv_number.specs.declared.place.Place.{Place}
+use Rattle.cv_number.specs.declared.place.Place.TheVariants.{Start, Signed, OneLetter, TwoLetters, Nan}
+use Rattle.cv_number.specs.declared.place.Place.TheVariants.{Whole, Bare, Dotted, Marked, MarkedSigned}
+use Rattle.cv_number.specs.declared.place.Place.TheVariants.{Powered}
+use Rattle.cv_number.specs.declared.place.Role.{Role}
+use Rattle.cv_number.specs.declared.place.Role.TheVariants.{Form, Negative, WholeDigit, RestDigit, Lowering}
+use Rattle.cv_number.specs.declared.place.Role.TheVariants.{PowerDigit}
+use Rattle.cv_number.specs.declared.fixed.Fixed.{Fixed}
+use Rattle.cv_number.specs.declared.fixed.Fixed.TheVariants.{NotNumber}
 
 -- the place behind a mark, and what the mark says there; None where it can't stand
 abbrev pub next_of : Place → Mark → Option (Place × Role)

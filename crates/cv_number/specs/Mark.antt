@@ -1,8 +1,8 @@
 -- What each byte stands for in a decimal.
 use Rattle.std.specs.Prelude.{ℕ, ◌+◌, ◌-◌, Bool, ◌&&◌, ◌||◌, ◌==◌, nat_le, if◌then◌else◌}
-use Rattle.cv_decimal.specs.declared.mark.Mark.{Mark}
-use Rattle.cv_decimal.specs.declared.mark.Mark.TheVariants.{Digit, Point, Plus, Minus, LetterE, LetterN}
-use Rattle.cv_decimal.specs.declared.mark.Mark.TheVariants.{LetterA, Other}
+use Rattle.cv_number.specs.declared.mark.Mark.{Mark}
+use Rattle.cv_number.specs.declared.mark.Mark.TheVariants.{Digit, Point, Plus, Minus, LetterE, LetterN}
+use Rattle.cv_number.specs.declared.mark.Mark.TheVariants.{LetterA, Other}
 
 -- the digits of ASCII
 abbrev pub is_digit : ℕ → Bool
