@@ -1,6 +1,5 @@
 //! Worked pictures. A pixel is a map unit each way, and the bottom left one lies at the origin.
 ghost use Rattle.cv_model.specs.Positions.{IsCoordinate};
-ghost use Rattle.cv_model.specs.Symbols.{IsSymbol};
 
 use crate::quick;
 use cv_geom::view_of;
@@ -46,9 +45,7 @@ const BLUE: Rgba = Rgba {
 };
 
 /// A symbol of a fill alone.
-fn fill(colour: Rgba) -> Symbol
-    ensures { IsSymbol result }
-{
+fn fill(colour: Rgba) -> Symbol {
     Symbol {
         fill: Some(colour),
         pen: None,
@@ -57,9 +54,7 @@ fn fill(colour: Rgba) -> Symbol
 }
 
 /// A symbol of a pen of one pixel alone.
-fn pen(colour: Rgba) -> Symbol
-    ensures { IsSymbol result }
-{
+fn pen(colour: Rgba) -> Symbol {
     Symbol {
         fill: None,
         pen: Some(Pen { colour, width: 1 }),
@@ -68,9 +63,7 @@ fn pen(colour: Rgba) -> Symbol
 }
 
 /// A symbol of a red marker alone, of at least one pixel.
-fn marker(shape: Shape, size: u8) -> Symbol
-    ensures { IsSymbol result }
-{
+fn marker(shape: Shape, size: u8) -> Symbol {
     Symbol {
         fill: None,
         pen: None,
@@ -83,9 +76,7 @@ fn marker(shape: Shape, size: u8) -> Symbol
 }
 
 /// A red fill below a green pen of one pixel below a blue square of three.
-fn all_parts() -> Symbol
-    ensures { IsSymbol result }
-{
+fn all_parts() -> Symbol {
     Symbol {
         fill: Some(RED),
         pen: Some(Pen {
@@ -190,9 +181,7 @@ fn painted(
     second: Option<Geometry>,
     symbol: &Symbol,
     view: &View,
-) -> Result<String, Fail>
-    requires { IsSymbol symbol.now }
-{
+) -> Result<String, Fail> {
     let picture = quick(alloc, &features(alloc, first, second)?, symbol, view)?;
     let mut marks = String::new(alloc);
     for pixel in picture.pixels().as_slice() {

@@ -1,0 +1,3 @@
+//! Worked texts and cells.
+use crate::symbol;
+
