@@ -11,8 +11,9 @@ use cv_model::{Class, Range, Style, Symbol, Text};
 ///
 /// A single style gives its symbol; a categorised one that of the first class with an equal text, else its
 /// fallback; a graduated one that of the first class that holds the text as a decimal; a ramp none.
+#[tactic(auto, unfolding(cv_model::specs::Styles::symbol_of))]
 pub fn symbol<'a>(style: &'a Style, value: Option<&Text>) -> Option<&'a Symbol>
-    ensures { option_copied result ≡ symbol_of style.now (option_copied value) }
+    ensures { option_copied result ≡ symbol_of style.now (option_copied value.entry) }
 {
     match style {
         Style::Single(symbol) => Some(symbol),
@@ -31,7 +32,7 @@ fn categorised<'a>(
     value: Option<&Text>,
 ) -> Option<&'a Symbol>
     ensures { option_copied result
-        ≡ option_or (option_and_then (class_of classes.now) (option_copied value)) fallback.now }
+        ≡ option_or (option_and_then (class_of classes.now) (option_copied value.entry)) fallback.now }
 {
     match value {
         Some(text) => match class(classes, text) {
@@ -57,7 +58,7 @@ fn class<'a>(classes: &'a [Class], text: &Text) -> Option<&'a Symbol>
 /// The symbol of the first class that holds the text as a decimal.
 fn graduated<'a>(classes: &'a [Range], value: Option<&Text>) -> Option<&'a Symbol>
     ensures { option_copied result
-        ≡ option_and_then (range_of classes.now) (option_and_then number_of (option_copied value)) }
+        ≡ option_and_then (range_of classes.now) (option_and_then number_of (option_copied value.entry)) }
 {
     range(classes, number(value?)?)
 }
@@ -83,9 +84,9 @@ fn in_range(decimal: Fixed) -> Option<i64>
 fn range(classes: &[Range], number: i64) -> Option<&Symbol>
     ensures { option_copied result ≡ range_of classes.now number }
 {
-    for class in classes {
-        if class.lower <= number && number <= class.upper {
-            return Some(&class.symbol);
+    for range in classes {
+        if range.lower <= number && number <= range.upper {
+            return Some(&range.symbol);
         }
     }
     None
