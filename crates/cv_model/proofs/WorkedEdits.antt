@@ -2,8 +2,11 @@
 -- before the next.
 use Rattle.std.specs.Prelude.{◌≡◌, ℕ, true, pos, List, [], ◌∷◌, Option, Some, None, refl, map}
 use Rattle.cv_model.specs.declared.blend.Blend.TheVariants.{Normal}
-use Rattle.cv_model.specs.declared.edit.Edit.TheVariants.{AddFeature, InsertFeature, RemoveFeature, SetAttribute, SetCell, SetStyle, SetOpacity, AddLayer, RemoveLayer, MoveLayer}
-use Rattle.cv_model.specs.declared.edit.EditError.TheVariants.{UnknownLayer, UnknownFeature, WrongKind, DuplicateId, Limit, BadPlace}
+use Rattle.cv_model.specs.declared.edit.Edit.TheVariants.{AddFeature, InsertFeature, RemoveFeature}
+use Rattle.cv_model.specs.declared.edit.Edit.TheVariants.{SetAttribute, SetCell, SetStyle, SetOpacity}
+use Rattle.cv_model.specs.declared.edit.Edit.TheVariants.{AddLayer, RemoveLayer, MoveLayer}
+use Rattle.cv_model.specs.declared.edit.EditError.TheVariants.{UnknownLayer, UnknownFeature, WrongKind}
+use Rattle.cv_model.specs.declared.edit.EditError.TheVariants.{DuplicateId, Limit, BadPlace}
 use Rattle.cv_model.specs.declared.feature.Feature.{Feature}
 use Rattle.cv_model.specs.declared.grid.Cell.TheVariants as cell
 use Rattle.cv_model.specs.declared.layer.LayerData.TheVariants as held
@@ -181,7 +184,8 @@ layer_and_mask = refl
 pub revision_of_the_mask : revision town (RemoveLayer 3 ∷ []) 3 ≡ 0
 revision_of_the_mask = refl
 
-pub revision_of_the_mask_again : revision town (RemoveLayer 3 ∷ AddLayer 2 (fresh 3 plain) ∷ SetOpacity 3 9 ∷ []) 3 ≡ 3
+pub revision_of_the_mask_again : revision town (RemoveLayer 3 ∷ AddLayer 2 (fresh 3 plain) ∷ SetOpacity 3 9
+    ∷ []) 3 ≡ 3
 revision_of_the_mask_again = refl
 
 pub revision_at_first : revision town (RemoveLayer 3 ∷ []) 1 ≡ 1

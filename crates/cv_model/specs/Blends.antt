@@ -8,7 +8,9 @@ use Rattle.cv_number.specs.Rounding.{rnd}
 use Rattle.cv_model.specs.declared.colour.Rgb.{Rgb}
 use Rattle.cv_model.specs.declared.colour.Rgba.{Rgba}
 use Rattle.cv_model.specs.declared.blend.Blend.{Blend}
-use Rattle.cv_model.specs.declared.blend.Blend.TheVariants.{Normal, Multiply, Screen, Overlay, Darken, Lighten, ColorDodge, ColorBurn, HardLight, Difference, Exclusion, Addition}
+use Rattle.cv_model.specs.declared.blend.Blend.TheVariants.{Normal, Multiply, Screen, Overlay, Darken}
+use Rattle.cv_model.specs.declared.blend.Blend.TheVariants.{Lighten, ColorDodge, ColorBurn, HardLight}
+use Rattle.cv_model.specs.declared.blend.Blend.TheVariants.{Difference, Exclusion, Addition}
 
 abbrev pub multiply : ℕ → ℕ → ℕ
 multiply cb cs = rnd (cb * cs) 255
@@ -17,7 +19,7 @@ multiply cb cs = rnd (cb * cs) 255
 abbrev pub screen : ℕ → ℕ → ℕ
 screen cb cs = rnd (255 * (cb + cs) - cb * cs) 255
 
--- multiply by a source below the middle, screen by one above it, each by twice its distance from the end
+-- multiply by twice a source up to the middle, screen by twice what a source has above the middle
 abbrev pub hard_light : ℕ → ℕ → ℕ
 hard_light cb cs = if nat_le (2 * cs) 255 then multiply cb (2 * cs) else screen cb (2 * cs - 255)
 

@@ -2,7 +2,8 @@
 --
 -- Source: the ASCII grid after ESRI's, in outline; that a cell owns its left and bottom border is this
 -- project's rule.
-use Rattle.std.specs.Prelude.{◌≡◌, ℕ, ◌+◌, ◌-◌, ◌*◌, ◌/◌, ◌≤◌, nat_lt, if◌then◌else◌, ℤ, pos, negsuc, ◌+ℤ◌, ◌≤ℤ◌, int_lt, List, length, slice_get, Option, Some, None, option_and_then}
+use Rattle.std.specs.Prelude.{◌≡◌, ℕ, ◌+◌, ◌-◌, ◌*◌, ◌/◌, ◌≤◌, nat_lt, if◌then◌else◌, ℤ, pos, negsuc, ◌+ℤ◌}
+use Rattle.std.specs.Prelude.{◌≤ℤ◌, int_lt, List, length, slice_get, Option, Some, None, option_and_then}
 use Rattle.cv_model.specs.declared.grid.Cell.{Cell}
 use Rattle.cv_model.specs.Views.{rise}
 use Rattle.cv_model.specs.Positions.{Position}

@@ -1,5 +1,9 @@
 -- A project: its background and its layers.
-use Rattle.std.specs.Prelude.{ℕ, Bool, ◌==◌, ◌&&◌, List, [], ◌∷◌, ◌++◌, filter, reverse, find, Option, option_map, option_and_then}
+--
+-- Source: in outline the developer documentation of QGIS (`QgsMapSettings`, `QgsMapRendererParallelJob`): layers top first,
+-- an image for each, opacity and blend mode at composition. Masks and joins are this project's own.
+use Rattle.std.specs.Prelude.{ℕ, Bool, ◌==◌, ◌&&◌, List, [], ◌∷◌, ◌++◌, filter, reverse, find, Option}
+use Rattle.std.specs.Prelude.{option_map, option_and_then}
 use Rattle.std.specs.List.{list_any}
 use Rattle.std.specs.Option.{option_to_list, option_map_or}
 use Rattle.cv_model.specs.declared.blend.Blend.{Blend}
@@ -56,7 +60,14 @@ contents_of (Grid grid) = Cells grid
 -- the layer that a new one becomes
 abbrev pub layer_of_new : NewLayer → Layer
 layer_of_new n = record {
-  core = record { id = n.id; mask = n.mask; join = n.join; style = n.style; contents = contents_of n.contents };
+  core = record {
+    id = n.id;
+    mask = n.mask;
+    join = n.join;
+    style = n.style;
+    contents = contents_of
+        n.contents;
+  };
   name = n.name;
   visible = n.visible;
   opacity = n.opacity;
@@ -107,7 +118,7 @@ deps project id = option_map_or deps_of (core_in project.layers id) (id ∷ [])
 
 -- ---- the slots of a picture
 
--- a layer is painted at so many millionths to a pixel
+-- a layer is a slot at a view: it is visible, and its bounds hold the view's units per pixel
 abbrev pub is_slot : PixelGrid → Layer → Bool
 is_slot view layer = layer.visible && holds_scale layer.scales view.u
 

@@ -1,7 +1,8 @@
 -- What is painted: the strokes of a feature, a layer's pixel, and the picture of a project at a view.
 --
 -- Source: this project's own; colours are laid and merged by W3C Compositing and Blending Level 1.
-use Rattle.std.specs.Prelude.{ℕ, ◌+◌, Bool, true, false, nat_eq, if◌then◌else◌, ℤ, pos, ◌*ℤ◌, List, [], ◌∷◌, ◌++◌, map, Option, Some, None}
+use Rattle.std.specs.Prelude.{ℕ, ◌+◌, Bool, true, false, nat_eq, if◌then◌else◌, ℤ, pos, ◌*ℤ◌, List, [], ◌∷◌}
+use Rattle.std.specs.Prelude.{◌++◌, map, Option, Some, None}
 use Rattle.std.specs.List.{flat_map, list_any}
 use Rattle.std.specs.Option.{option_map_or}
 use Rattle.cv_model.specs.declared.colour.Rgb.{Rgb}
@@ -62,7 +63,8 @@ fill_strokes p g (Some fill) = laid_where (is_covered p g) fill
 abbrev pub pen_strokes : PixelGrid → Position → GeometryLists → Option PenParts → List Rgba
 pen_strokes view p g None = []
 pen_strokes view p g (Some pen) =
-    let r = half_side view pen.width in laid_where (hits_rings r p g) pen.colour ++ laid_where (hits_lines r p g) pen.colour
+    let r = half_side view pen.width in laid_where (hits_rings r p g) pen.colour ++ laid_where (hits_lines
+    r p g) pen.colour
 
 -- the marker, once, where it covers p from some point
 abbrev pub marker_strokes : PixelGrid → Position → GeometryLists → Option MarkerParts → List Rgba
@@ -116,7 +118,8 @@ painted (Cells grid) parts view p = cell_colour parts.own.style grid p
 -- the pixel of a layer
 unfoldable pub pixel : Parts → PixelGrid → ℕ → ℕ → Rgba
 pixel parts view i j =
-    let p = centre_of view i j in if is_shown p parts.mask then painted parts.own.contents parts view p else transparent
+    let p = centre_of view i j in if is_shown p parts.mask then painted parts.own.contents parts view p
+    else transparent
 
 -- ---- the picture
 

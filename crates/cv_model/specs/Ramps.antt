@@ -2,7 +2,8 @@
 --
 -- Source: this project's own; between two stops each channel goes in proportion, rounded to the nearest, a
 -- half upwards.
-use Rattle.std.specs.Prelude.{ℕ, ◌+◌, ◌*◌, ◌≤◌, Bool, if◌then◌else◌, ℤ, ◌<ℤ◌, int_lt, int_le, List, [], ◌∷◌, length, All, find}
+use Rattle.std.specs.Prelude.{ℕ, ◌+◌, ◌*◌, ◌≤◌, Bool, if◌then◌else◌, ℤ, ◌<ℤ◌, int_lt, int_le, List, [], ◌∷◌}
+use Rattle.std.specs.Prelude.{length, All, find}
 use Rattle.std.specs.Ordering.{int_eq}
 use Rattle.std.specs.Option.{option_map_or}
 use Rattle.cv_number.specs.Rounding.{rnd}

@@ -1,4 +1,6 @@
 -- The scales at which a layer is painted.
+--
+-- Source: this project's own.
 use Rattle.std.specs.Prelude.{Bool, true, ◌&&◌, ℤ, pos, ◌≤ℤ◌, int_le, Option, None, IfSome}
 use Rattle.std.specs.Option.{option_map_or}
 

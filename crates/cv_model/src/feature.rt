@@ -87,7 +87,8 @@ impl FeatureList {
 
     /// The features in order.
     pub fn features(&self) -> &[Feature]
-        ensures { result.now ≡ self.now.features }
+        ensures features { result.now ≡ self.now.features }
+        ensures kept { IsFeatureTable self.now }
     {
         self.features.as_slice()
     }

@@ -10,5 +10,5 @@ use Rattle.cv_paint.proofs.plain.colour.Goals as goal
 pub returns : goal.returns
 unfolding colour_of pixel feature_symbol symbol_of
 returns c =
-    let painted = rw (c.features.ensures, c.centre.ensures) at c.layer_pixel-pixel.ensures in
+    let painted = rw (c.features.ensures.features, c.centre.ensures) at c.layer_pixel-pixel.ensures in
     c.merge.ensures ∙ ap (λ colour. merge (record { r = 255; g = 255; b = 255 }) colour 255 Normal) painted
