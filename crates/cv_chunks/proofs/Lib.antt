@@ -1,0 +1,3 @@
+-- Lemmas on shared lists.
+pub mod GroupLemmas
+pub mod PartLemmas

@@ -1,0 +1,43 @@
+use Rattle.std.proofs.Common.{◌≡◌, ◌<◌, length, arith, rules, set, refl, sym, ◌∙◌, get_or}
+use Rattle.std.specs.Prelude.{true}
+use Rattle.std.proofs.lemmas.Option.{slice_get_within}
+use Rattle.cv_chunks.proofs.PartLemmas.{at_part, part_fits}
+use Rattle.cv_chunks.proofs.part.split_in.Goals as goal
+
+pub split-requires-clause-room : goal.split-requires-clause-room
+split-requires-clause-room g c =
+    let items = g.P.Part.items in
+    let parts = c.args.parts.now.items in
+    let part = c.index_mut-front.result.now in
+    let read = rw c.reserve.ensures.items at c.index_mut-front.ensures.value in
+    let known = at_part (λ part. g.P.EditedPart.full part ≡ true) parts c.args.at part c.requires.full read in
+    omega (arith, part_fits items parts c.args.at part known.0)
+
+pub overflow_add-at : goal.overflow_add-at
+overflow_add-at g c =
+    let read = rw c.reserve.ensures.items at c.index_mut-front.ensures.value in
+    let known = at_part (λ part. g.P.EditedPart.full part ≡ true) c.args.parts.now.items c.args.at c.index_mut-front.result.now c.requires.full read in
+    omega (arith, slice_get_within c.args.parts.now.items c.args.at c.index_mut-front.result.now known.0, c.args.parts.now.ok, c.args.parts.now.small)
+
+pub insert-requires : goal.insert-requires
+insert-requires g c =
+    let read = rw c.reserve.ensures.items at c.index_mut-front.ensures.value in
+    let known = at_part (λ part. g.P.EditedPart.full part ≡ true) c.args.parts.now.items c.args.at c.index_mut-front.result.now c.requires.full read in
+    omega (arith, slice_get_within c.args.parts.now.items c.args.at c.index_mut-front.result.now known.0, c.args.parts.now.ok, c.reserve.ensures.len)
+
+pub returns-clause-ok : goal.returns-clause-ok
+returns-clause-ok g c =
+    let read = rw c.reserve.ensures.items at c.index_mut-front.ensures.value in
+    let known = at_part (λ part. g.P.EditedPart.full part ≡ true) c.args.parts.now.items c.args.at c.index_mut-front.result.now c.requires.full read in (
+      c.index_mut-front.result.now,
+      c.split.new.self,
+      c.in_ok-back.back,
+      record {
+        found = known.0;
+        parts = rw c.reserve.ensures.items at c.in-Ok.ensures.items;
+        same = c.in_ok-back.ensures.ok;
+        front_long = c.len-long.ensures;
+        front_not_full = c.in_ok-back.ensures.not_full.0;
+        back_not_full = c.in_ok-back.ensures.not_full.1;
+      },
+    )

@@ -1,0 +1,3 @@
+-- The definitions of shared lists, in reading order.
+pub mod Clones
+pub mod Parts

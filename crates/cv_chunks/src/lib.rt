@@ -1,0 +1,8 @@
+//! x
+#![tactic(auto)]
+
+mod chunk;
+mod group;
+mod part;
+
+pub type NoMemory = std::alloc::AllocError;
