@@ -1,3 +1,4 @@
 -- The definitions of shared lists, in reading order.
 pub mod Clones
 pub mod Parts
+pub mod Trees
