@@ -2,3 +2,5 @@
 pub mod Clones
 pub mod Parts
 pub mod Trees
+pub mod Runs
+pub mod Buckets

@@ -4,15 +4,12 @@ ghost use Rattle.std.specs.Prelude.{◌≡◌, ◌<◌, ◌≤◌, ◌+◌, ◌+
 ghost use Rattle.cv_chunks.specs.Clones.{ClonesAreEqual};
 
 use crate::NoMemory;
-use crate::part::{EditedPart, Part};
+use crate::part::{EditedPart, OfRow, Part, ROW};
 use std::alloc::Global;
 use std::marker::Model;
 use std::sync::Arc;
 
-/// How many elements a chunk has at most.
-pub(crate) const CHUNK: usize = 128;
-
-/// A run of at most `CHUNK` elements, seen as these. What it holds is shared with its clones until one of them is changed.
+/// A run of at most 128 elements, seen as these. What it holds is shared with its clones until one of them is changed.
 #[derive(Drop)]
 pub(crate) struct Chunk<T> {
     count: u64,
@@ -38,9 +35,21 @@ impl<T: Clone> Chunk<T> {
         requires clones { ClonesAreEqual T.is_clone }
         ensures { IfOk result (λ made. made ≡ elements.now) }
     {
-        let count = elements.len() as u64;
         let elements = Vec::from_clones(alloc, elements)?;
-        let elements = Arc::new(alloc, elements)?;
+        Chunk::of_row(elements)
+    }
+}
+
+impl<T: Drop> OfRow<T> for Chunk<T> {
+    ghost content = { λ chunk. chunk };
+
+    fn of_row(items: Vec<T>) -> Result<Self, NoMemory>
+        requires { length items.items ≤ 128 }
+        ensures { IfOk result (λ made. made ≡ items.items) }
+    {
+        let alloc = *items.allocator();
+        let count = items.len() as u64;
+        let elements = Arc::new(alloc, items)?;
         Ok(Chunk { count, elements })
     }
 }
@@ -78,7 +87,7 @@ impl<T: Clone> EditedPart<T> for Chunk<T> {
     }
 
     fn is_full(&self) -> bool {
-        self.count >= CHUNK as u64
+        self.count >= ROW as u64
     }
 
     fn split(&mut self) -> Result<Self, NoMemory> {

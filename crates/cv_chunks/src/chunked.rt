@@ -8,8 +8,9 @@ ghost use Rattle.cv_chunks.specs.Trees.{elements_of};
 ghost use Rattle.std.specs.Prelude.{IsSome};
 
 use crate::NoMemory;
+use crate::chunk::Chunk;
 use crate::group::Group;
-use crate::part::{insert_in, remove_in, run_in, set_in};
+use crate::part::{insert_in, remove_in, rows_of, run_in, set_in};
 use std::alloc::{AllocError, Global};
 use std::marker::Model;
 use std::sync::Arc;
@@ -96,6 +97,24 @@ impl<T> Chunked<T> {
             count: self.count,
             groups,
             alloc: self.alloc,
+        })
+    }
+}
+
+impl<T: Drop> Chunked<T> {
+    /// The list of these elements, which are moved into it: none is cloned. A refusal drops them.
+    pub fn of(elements: Vec<T>) -> Result<Chunked<T>, NoMemory>
+        ensures { IfOk result (λ made. made ≡ elements.items) }
+    {
+        let alloc = *elements.allocator();
+        let count = elements.len() as u64;
+        let chunks: Vec<Chunk<T>> = rows_of(elements)?;
+        let groups: Vec<Group<T>> = rows_of(chunks)?;
+        let root = Arc::new(alloc, groups)?;
+        Ok(Chunked {
+            count,
+            groups: Some(root),
+            alloc,
         })
     }
 }

@@ -6,15 +6,12 @@ ghost use Rattle.cv_chunks.specs.Clones.{ClonesAreEqual};
 
 use crate::NoMemory;
 use crate::chunk::Chunk;
-use crate::part::{EditedPart, Part, insert_in, remove_in, run_in, set_in, total_of};
+use crate::part::{EditedPart, OfRow, Part, ROW, insert_in, remove_in, run_in, set_in, total_of};
 use std::alloc::Global;
 use std::marker::Model;
 use std::sync::Arc;
 
-/// How many chunks a group has at most.
-pub(crate) const GROUP: usize = 128;
-
-/// A row of at most `GROUP` chunks, seen as these. What it holds is shared with its clones until one of them is changed.
+/// A row of at most 128 chunks, seen as these. What it holds is shared with its clones until one of them is changed.
 #[derive(Drop)]
 pub(crate) struct Group<T> {
     count: u64,
@@ -36,13 +33,24 @@ impl<T> Model for Group<T> {
 impl<T: Drop> Group<T> {
     /// A group of clones of these chunks.
     fn of_clones(alloc: Global, chunks: &[Chunk<T>]) -> Result<Self, NoMemory>
-        requires short { length chunks.now ≤ 128 }
-        requires room { length (flat_map (λ chunk. chunk) chunks.now) < 2 ^ 64 }
+        requires { length chunks.now ≤ 128 }
         ensures { IfOk result (λ made. made ≡ chunks.now) }
     {
-        let count = total_of(chunks);
         let chunks = Vec::from_clones(alloc, chunks)?;
-        let chunks = Arc::new(alloc, chunks)?;
+        Group::of_row(chunks)
+    }
+}
+
+impl<T: Drop> OfRow<Chunk<T>> for Group<T> {
+    ghost content = { λ group. group };
+
+    fn of_row(items: Vec<Chunk<T>>) -> Result<Self, NoMemory>
+        requires { length items.items ≤ 128 }
+        ensures { IfOk result (λ made. made ≡ items.items) }
+    {
+        let alloc = *items.allocator();
+        let count = total_of(items.as_slice())?;
+        let chunks = Arc::new(alloc, items)?;
         Ok(Group { count, chunks })
     }
 }
@@ -80,7 +88,7 @@ impl<T: Clone> EditedPart<T> for Group<T> {
     }
 
     fn is_full(&self) -> bool {
-        self.chunks.len() >= GROUP
+        self.chunks.len() >= ROW
     }
 
     fn split(&mut self) -> Result<Self, NoMemory> {

@@ -6,7 +6,10 @@ ghost use Rattle.cv_chunks.specs.Clones.{ClonesAreEqual};
 ghost use Rattle.cv_chunks.specs.Parts.{IsWithin, IsRunFrom, IsSpot, CutsPart};
 
 use crate::NoMemory;
-use std::alloc::Global;
+use std::alloc::{AllocError, Global};
+
+/// How many elements a chunk has at most, and how many chunks a group.
+pub(crate) const ROW: usize = 128;
 
 /// A part of a list.
 pub(crate) trait Part<T> {
@@ -38,7 +41,6 @@ pub(crate) trait EditedPart<T: Clone>: Part<T> + Drop {
     fn split(&mut self) -> Result<Self, NoMemory>
         requires full { full self.old ≡ true }
         requires clones { ClonesAreEqual T.is_clone }
-        requires room { length (Self.items self.old) < 2 ^ 64 }
         ensures ok { IfOk result (λ back. Self.items self.new ++ Self.items back ≡ Self.items self.old) }
         ensures not_full { IfOk result (λ back. (full self.new ≡ false) × (full back ≡ false)) }
         ensures err { OnErr result (self.new ≡ self.old) };
@@ -67,6 +69,29 @@ pub(crate) trait EditedPart<T: Clone>: Part<T> + Drop {
         ensures err { OnErr result (Self.items self.new ≡ Self.items self.old) };
 }
 
+/// What is made of a row of at most 128 items, and is seen as these.
+pub(crate) trait OfRow<X>: Drop {
+    ghost content: { Self → List X };
+
+    fn of_row(items: Vec<X>) -> Result<Self, NoMemory>
+        requires { length items.items ≤ 128 }
+        ensures { IfOk result (λ made. content made ≡ items.items) };
+}
+
+/// Moves the items into rows, which are full but for the last.
+pub(crate) fn rows_of<X: Drop, P: OfRow<X>>(mut items: Vec<X>) -> Result<Vec<P>, NoMemory>
+    ensures { IfOk result (λ rows. flat_map P.content rows.items ≡ items.items) }
+{
+    let mut rows = Vec::new(*items.allocator());
+    while !items.is_empty() {
+        let last = (items.len() - 1) / ROW * ROW;
+        let row = items.split_off(last)?;
+        rows.push(P::of_row(row)?)?;
+    }
+    rows.reverse();
+    Ok(rows)
+}
+
 /// Where an element stands: in which part, and behind how many others of that part.
 #[derive(Clone, Copy)]
 pub(crate) struct Place {
@@ -90,16 +115,15 @@ pub(crate) fn place_of<T, P: Part<T>>(parts: &[P], at: u64) -> Place
     unreachable!()
 }
 
-/// How many elements the parts have in all.
-pub(crate) fn total_of<T, P: Part<T>>(parts: &[P]) -> u64
-    requires { length (flat_map P.items parts.now) < 2 ^ 64 }
-    ensures { result ≡ length (flat_map P.items parts.now) }
+/// How many elements the parts have in all. No list has 2^64 of them or more.
+pub(crate) fn total_of<T, P: Part<T>>(parts: &[P]) -> Result<u64, NoMemory>
+    ensures { IfOk result (λ total. total ≡ length (flat_map P.items parts.now)) }
 {
-    let mut total = 0;
+    let mut total = 0u64;
     for part in parts {
-        total += part.len();
+        total = total.checked_add(part.len()).ok_or(AllocError)?;
     }
-    total
+    Ok(total)
 }
 
 /// The elements from a place of the whole on that stand side by side in memory.
@@ -151,7 +175,6 @@ pub(crate) fn remove_in<T: Clone, P: EditedPart<T>>(
 fn split_in<T: Clone, P: EditedPart<T>>(parts: &mut Vec<P>, at: usize) -> Result<u64, NoMemory>
     requires full { IsSomeAnd (slice_get parts.old.items at) (λ part. P.full part ≡ true) }
     requires clones { ClonesAreEqual T.is_clone }
-    requires room { length (flat_map P.items parts.old.items) < 2 ^ 64 }
     ensures ok { IfOk result (CutsPart P.items P.full parts.old.items parts.new.items at) }
     ensures err { OnErr result (parts.new.items ≡ parts.old.items) }
     ensures count { length parts.new.items ≤ length parts.old.items + 1 }
@@ -170,7 +193,6 @@ fn split_in<T: Clone, P: EditedPart<T>>(parts: &mut Vec<P>, at: usize) -> Result
 fn spot_before<T: Clone, P: EditedPart<T>>(parts: &mut Vec<P>, at: u64) -> Result<Place, NoMemory>
     requires within { at < length (flat_map P.items parts.old.items) }
     requires clones { ClonesAreEqual T.is_clone }
-    requires room { length (flat_map P.items parts.old.items) < 2 ^ 64 }
     ensures same { flat_map P.items parts.new.items ≡ flat_map P.items parts.old.items }
     ensures ok { IfOk result (λ spot. IsSomeAnd (slice_get parts.new.items spot.part)
         (IsSpot P.items P.full parts.new.items at spot.part spot.within)) }

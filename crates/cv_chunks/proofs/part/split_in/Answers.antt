@@ -4,15 +4,6 @@ use Rattle.std.proofs.lemmas.Option.{slice_get_within}
 use Rattle.cv_chunks.proofs.PartLemmas.{at_part, part_fits}
 use Rattle.cv_chunks.proofs.part.split_in.Goals as goal
 
-pub split-requires-clause-room : goal.split-requires-clause-room
-split-requires-clause-room g c =
-    let items = g.P.Part.items in
-    let parts = c.args.parts.now.items in
-    let part = c.index_mut-front.result.now in
-    let read = rw c.reserve.ensures.items at c.index_mut-front.ensures.value in
-    let known = at_part (λ part. g.P.EditedPart.full part ≡ true) parts c.args.at part c.requires.full read in
-    omega (arith, part_fits items parts c.args.at part known.0)
-
 pub overflow_add-at : goal.overflow_add-at
 overflow_add-at g c =
     let read = rw c.reserve.ensures.items at c.index_mut-front.ensures.value in
