@@ -1,4 +1,8 @@
-//! x
+//! Lists whose versions share what an edit didn't touch, and the rows that ranges cover.
+//!
+//! Contract: a `Chunked` is a list, and each edit is the edit of a list, whoever shares it; `Buckets` are what the definition says.
+//! Definitions: `Clones`, `Parts`, `Trees`, `Runs`, `Buckets`, in this order. `new`, `len`, `get`, `run_from`, `iter`, `of_row`
+//! and `total_length` take no memory; `lengths_by_threads` alone starts a thread.
 #![tactic(auto)]
 
 mod buckets;
@@ -8,10 +12,16 @@ mod elements;
 mod group;
 mod part;
 mod shared;
+mod threads;
 
 pub use buckets::{Buckets, RowRange, total_length};
 pub use chunked::Chunked;
 pub use elements::Elements;
 pub use shared::Shared;
+pub use threads::lengths_by_threads;
 
+/// The answer of a call that has got no memory.
 pub type NoMemory = std::alloc::AllocError;
+
+#[cfg(test)]
+mod tests;
