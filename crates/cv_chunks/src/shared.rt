@@ -10,7 +10,7 @@ use std::sync::Arc;
 /// A value that several lists may hold at once, seen as that value.
 ///
 /// Its clones are pointers to the one value. So a copied chunk of a `Chunked<Shared<T>>` copies nothing of what `T` holds.
-#[derive(Drop)]
+#[derive(Debug, Drop)]
 pub struct Shared<T> {
     value: Arc<T, Global>,
 }
