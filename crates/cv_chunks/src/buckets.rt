@@ -16,10 +16,11 @@ pub struct RowRange {
     pub end: u32,
 }
 
-/// How many numbers the buckets of these ranges hold in all, of four bytes each: the sum of the ranges' lengths.
+/// How many numbers the buckets of these ranges hold in all: the sum of the ranges' lengths. Each has four
+/// bytes.
 ///
-/// It takes one step a range, so that a caller can ask it before [`Buckets::build`] and take another way where it is too much:
-/// a million ranges over 4,096 rows each make 16 GB.
+/// It takes one step a range. So a caller can ask it before [`Buckets::build`], and take another way where
+/// it is too much: a million ranges over 4,096 rows each make 16 GB.
 pub fn total_length(ranges: &[RowRange]) -> u64
     requires { length ranges.now < 2 ^ 32 }
     ensures { result ≡ sum_by length_of ranges.now }
@@ -45,7 +46,8 @@ fn empty_buckets(alloc: Global, rows: u32) -> Result<Vec<Vec<u32>>, NoMemory>
 /// Puts a number behind those of each row of a range.
 fn enter(buckets: &mut Vec<Vec<u32>>, range: RowRange, number: u32) -> Result<(), NoMemory>
     requires { (range.first ≤ range.end) × (range.end ≤ vec_len buckets.old) }
-    ensures { OnOk result (IsEntered (numbers_of buckets.old) (numbers_of buckets.new) range.first range.end number) }
+    ensures { OnOk result
+        (IsEntered (numbers_of buckets.old) (numbers_of buckets.new) range.first range.end number) }
 {
     for row in range.first..range.end {
         buckets[row as usize].push(number)?;
@@ -69,8 +71,8 @@ impl Model for Buckets {
 }
 
 impl Buckets {
-    /// The numbers of the ranges that cover each row. It takes steps and memory in proportion to the rows, the ranges and
-    /// [`total_length`].
+    /// The numbers of the ranges that cover each row. Steps and memory grow with the rows, the ranges and
+    /// [`total_length`]; the memory is at most about twice what the numbers need.
     pub fn build(alloc: Global, rows: u32, ranges: &[RowRange]) -> Result<Buckets, NoMemory>
         requires within { All (IsWithinRows rows) ranges.now }
         requires count { length ranges.now < 2 ^ 32 }

@@ -9,7 +9,7 @@ use std::alloc::Global;
 use std::marker::Model;
 use std::sync::Arc;
 
-/// A run of at most 128 elements, seen as these. What it holds is shared with its clones until one of them is changed.
+/// A run of at most 128 elements, seen as these. Its clones share what it holds until one of them is changed.
 #[derive(Drop)]
 pub(crate) struct Chunk<T> {
     count: u64,

@@ -17,15 +17,20 @@ use std::sync::Arc;
 
 /// A list, seen as that list alone.
 ///
-/// Its elements stand in chunks of at most 128, and the chunks in groups of at most 128. The lists that [`Chunked::share`] made of one
-/// another have their chunks in common until one of them is changed. An edit of a list that has nothing in common with another is done in
-/// place; else it copies the groups' pointers, the pointers of one group and the elements of one chunk: with 1,000,000 elements, at most
-/// 128 of each, where no chunk was cut in two. `get` adds up at most as many counts, which stand beside the pointers.
+/// Its elements stand in chunks of at most 128, and the chunks in groups of at most 128. The lists that
+/// [`Chunked::share`] made of one another have their chunks in common until one of them is changed. An edit
+/// of a list that has nothing in common with another is done in place. Else it copies the pointers to the
+/// groups, the pointers of one group and the elements of one chunk. With 1,000,000 elements in full chunks
+/// these are 62, 128 and 128, and no more than that of two groups and two chunks where a full one is cut.
+/// `get` adds up at most as many counts as there are groups and chunks in one group; they stand beside the
+/// pointers.
 ///
-/// A full chunk is cut in the middle for an `insert`, and one that `remove` left empty goes; chunks aren't joined. So there are never
-/// more chunks than elements, and a list that was made by `of` or `push` has full ones.
+/// An `insert` cuts a full chunk in the middle, and a chunk that `remove` left empty goes; chunks aren't
+/// joined. So there are never more chunks than elements. A list that was made by `of` or `push` alone has
+/// full ones.
 ///
-/// What copying an element costs is the element's affair: large ones are held as [`Shared`](crate::Shared).
+/// What it costs to copy an element is the element's affair: large ones are held as
+/// [`Shared`](crate::Shared).
 #[derive(Drop)]
 pub struct Chunked<T> {
     count: u64,
@@ -85,7 +90,8 @@ impl<T> Chunked<T> {
         run_in(groups.as_slice(), at)
     }
 
-    /// Another list of these elements, which has them in common with this one. Takes as long whatever their number.
+    /// Another list of these elements, which has them in common with this one. It takes as long for any
+    /// number.
     pub fn share(&self) -> Result<Chunked<T>, NoMemory>
         ensures { IfOk result (λ shared. shared ≡ self.now) }
     {
@@ -161,7 +167,8 @@ impl<T: Clone> Chunked<T> {
         self.insert(self.count, value)
     }
 
-    /// Puts a value before the element at a place, or behind all. A refusal hands it back and changes nothing.
+    /// Puts a value before the element at a place, or behind all. A refusal hands it back and changes
+    /// nothing.
     pub fn insert(&mut self, at: u64, value: T) -> Result<(), (T, NoMemory)>
         requires up_to_end { at ≤ length self.old }
         requires clones { ClonesAreEqual T.is_clone }

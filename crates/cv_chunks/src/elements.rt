@@ -32,7 +32,8 @@ impl<'a, T> Elements<'a, T> {
     fn refill(&mut self)
         ensures same { elements_left self.new.list.now self.new.run.now self.new.behind
             ≡ elements_left self.old.list.now self.old.run.now self.old.behind }
-        ensures end { self.new.run.now ≡ [] → elements_left self.old.list.now self.old.run.now self.old.behind ≡ [] }
+        ensures end { self.new.run.now ≡ []
+            → elements_left self.old.list.now self.old.run.now self.old.behind ≡ [] }
     {
         if self.run.is_empty() && self.behind < self.list.len() {
             self.run = self.list.run_from(self.behind);

@@ -11,7 +11,7 @@ use std::alloc::Global;
 use std::marker::Model;
 use std::sync::Arc;
 
-/// A row of at most 128 chunks, seen as these. What it holds is shared with its clones until one of them is changed.
+/// A row of at most 128 chunks, seen as these. Its clones share what it holds until one of them is changed.
 #[derive(Drop)]
 pub(crate) struct Group<T> {
     count: u64,

@@ -1,8 +1,9 @@
 //! Lists whose versions share what an edit didn't touch, and the rows that ranges cover.
 //!
-//! Contract: a `Chunked` is a list, and each edit is the edit of a list, whoever shares it; `Buckets` are what the definition says.
-//! Definitions: `Clones`, `Parts`, `Trees`, `Runs`, `Buckets`, in this order. `new`, `len`, `get`, `run_from`, `iter`, `of_row`
-//! and `total_length` take no memory; `lengths_by_threads` alone starts a thread.
+//! Contract: a `Chunked` is a list, each of its edits is that of a list, and no edit shows in a list that
+//! shares its elements; `Buckets` are what the definition says. Definitions: `Clones`, `Parts`, `Trees`,
+//! `Runs`, `Buckets`, in this order. `new`, `len`, `get`, `run_from`, `iter`, `of_row`, `value` and
+//! `total_length` take no memory; `lengths_by_threads` alone starts a thread.
 #![tactic(auto)]
 
 mod buckets;

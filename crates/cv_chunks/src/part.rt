@@ -102,7 +102,8 @@ pub(crate) struct Place {
 /// Where the element at a place of the whole stands.
 pub(crate) fn place_of<T, P: Part<T>>(parts: &[P], at: u64) -> Place
     requires { at < length (flat_map P.items parts.now) }
-    ensures { IsSomeAnd (slice_get parts.now result.part) (IsWithin P.items parts.now at result.part result.within) }
+    ensures { IsSomeAnd (slice_get parts.now result.part)
+        (IsWithin P.items parts.now at result.part result.within) }
 {
     let mut within = at;
     for (part, piece) in parts.iter().enumerate() {
@@ -143,8 +144,10 @@ pub(crate) fn set_in<T: Clone, P: EditedPart<T>>(
 ) -> Result<(), (T, NoMemory)>
     requires within { at < length (flat_map P.items parts.old.items) }
     requires clones { ClonesAreEqual T.is_clone }
-    ensures ok { OnOk result (flat_map P.items parts.new.items ≡ slice_set (flat_map P.items parts.old.items) at value) }
-    ensures err { IfErr result (λ e. (e.0 ≡ value) × (flat_map P.items parts.new.items ≡ flat_map P.items parts.old.items)) }
+    ensures ok { OnOk result
+        (flat_map P.items parts.new.items ≡ slice_set (flat_map P.items parts.old.items) at value) }
+    ensures err { IfErr result
+        (λ e. (e.0 ≡ value) × (flat_map P.items parts.new.items ≡ flat_map P.items parts.old.items)) }
     ensures count { length parts.new.items ≡ length parts.old.items }
 {
     let place = place_of(parts.as_slice(), at);
@@ -158,7 +161,8 @@ pub(crate) fn remove_in<T: Clone, P: EditedPart<T>>(
 ) -> Result<(), NoMemory>
     requires within { at < length (flat_map P.items parts.old.items) }
     requires clones { ClonesAreEqual T.is_clone }
-    ensures ok { OnOk result (flat_map P.items parts.new.items ≡ remove (flat_map P.items parts.old.items) at) }
+    ensures ok { OnOk result
+        (flat_map P.items parts.new.items ≡ remove (flat_map P.items parts.old.items) at) }
     ensures err { OnErr result (flat_map P.items parts.new.items ≡ flat_map P.items parts.old.items) }
     ensures count { length parts.new.items ≤ length parts.old.items }
 {
@@ -219,7 +223,8 @@ fn make_room_behind<T: Clone, P: EditedPart<T>>(
     alloc: Global,
 ) -> Result<(), NoMemory>
     ensures same { flat_map P.items parts.new.items ≡ flat_map P.items parts.old.items }
-    ensures ok { OnOk result (IsSomeAnd (slice_get parts.new.items (length parts.new.items - 1)) (λ part. P.full part ≡ false)) }
+    ensures ok { OnOk result
+        (IsSomeAnd (slice_get parts.new.items (length parts.new.items - 1)) (λ part. P.full part ≡ false)) }
     ensures count { length parts.new.items ≤ length parts.old.items + 1 }
 {
     if let Some(part) = parts.last()
@@ -239,7 +244,8 @@ fn spot_behind<T: Clone, P: EditedPart<T>>(
 ) -> Result<Place, NoMemory>
     ensures same { flat_map P.items parts.new.items ≡ flat_map P.items parts.old.items }
     ensures ok { IfOk result (λ spot. IsSomeAnd (slice_get parts.new.items spot.part)
-        (IsSpot P.items P.full parts.new.items (length (flat_map P.items parts.old.items)) spot.part spot.within)) }
+        (IsSpot P.items P.full parts.new.items (length (flat_map P.items parts.old.items))
+        spot.part spot.within)) }
     ensures count { length parts.new.items ≤ length parts.old.items + 1 }
 {
     make_room_behind(parts, alloc)?;
@@ -281,8 +287,10 @@ pub(crate) fn insert_in<T: Clone, P: EditedPart<T>>(
     requires up_to_end { at ≤ total }
     requires room { total + 1 < 2 ^ 64 }
     requires clones { ClonesAreEqual T.is_clone }
-    ensures ok { OnOk result (flat_map P.items parts.new.items ≡ insert (flat_map P.items parts.old.items) at value) }
-    ensures err { IfErr result (λ e. (e.0 ≡ value) × (flat_map P.items parts.new.items ≡ flat_map P.items parts.old.items)) }
+    ensures ok { OnOk result
+        (flat_map P.items parts.new.items ≡ insert (flat_map P.items parts.old.items) at value) }
+    ensures err { IfErr result
+        (λ e. (e.0 ≡ value) × (flat_map P.items parts.new.items ≡ flat_map P.items parts.old.items)) }
     ensures count { length parts.new.items ≤ length parts.old.items + 1 }
 {
     match spot_for(parts, alloc, total, at) {

@@ -9,7 +9,8 @@ use std::sync::Arc;
 
 /// A value that several lists may hold at once, seen as that value.
 ///
-/// Its clones are pointers to the one value. So a copied chunk of a `Chunked<Shared<T>>` copies nothing of what `T` holds.
+/// Its clones are pointers to the one value. So a copy of a chunk of a `Chunked<Shared<T>>` copies nothing
+/// of what `T` holds.
 #[derive(Debug, Drop)]
 pub struct Shared<T> {
     value: Arc<T, Global>,

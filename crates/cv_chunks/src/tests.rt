@@ -1,4 +1,5 @@
-//! What no clause says: each call that takes memory can answer, a list works at types that must be dropped, and no share sees an edit.
+//! What no clause says: each call that takes memory can answer, and a list works at types that must be
+//! dropped.
 use crate::threads::lengths_by_threads;
 use crate::{Buckets, Chunked, RowRange, Shared, total_length};
 use std::alloc::Global;

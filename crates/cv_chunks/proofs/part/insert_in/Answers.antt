@@ -10,7 +10,8 @@ insert-requires-clause-room g c =
     let parts = c.spot_for.new.parts.items in
     let spot = c.in-Ok.spot in
     let part = c.index_mut.result.now in
-    let known = at_part (IsSpot items g.P.EditedPart.full parts c.args.at spot.part spot.within) parts spot.part part c.in-Ok.ensures.ok c.index_mut.ensures.value in
+    let known = at_part (IsSpot items g.P.EditedPart.full parts c.args.at spot.part spot.within) parts
+    spot.part part c.in-Ok.ensures.ok c.index_mut.ensures.value in
     omega (arith, part_fits items parts spot.part part known.0, ap length c.spot_for.ensures.same)
 
 pub returns-in-Ok-clause-ok : goal.returns-in-Ok-clause-ok
@@ -20,10 +21,12 @@ returns-in-Ok-clause-ok g c =
     let parts = c.spot_for.new.parts.items in
     let spot = c.in-Ok.spot in
     let part = c.index_mut.result.now in
-    let known = at_part (IsSpot items full parts c.args.at spot.part spot.within) parts spot.part part c.in-Ok.ensures.ok c.index_mut.ensures.value in
+    let known = at_part (IsSpot items full parts c.args.at spot.part spot.within) parts spot.part part
+    c.in-Ok.ensures.ok c.index_mut.ensures.value in
     rw (← c.spot_for.ensures.same)
     (on_ok_weaker c.insert.result
-    (insert_at_spot items full parts c.args.at spot.part spot.within part c.insert.new.self c.args.value known.1) c.insert.ensures.ok)
+    (insert_at_spot items full parts c.args.at spot.part spot.within part c.insert.new.self c.args.value
+    known.1) c.insert.ensures.ok)
 
 pub returns-in-Ok-clause-err : goal.returns-in-Ok-clause-err
 returns-in-Ok-clause-err g c =
@@ -31,6 +34,11 @@ returns-in-Ok-clause-err g c =
     let parts = c.spot_for.new.parts.items in
     let spot = c.in-Ok.spot in
     let part = c.index_mut.result.now in
-    let known = at_part (IsSpot items g.P.EditedPart.full parts c.args.at spot.part spot.within) parts spot.part part c.in-Ok.ensures.ok c.index_mut.ensures.value in
+    let known = at_part (IsSpot items g.P.EditedPart.full parts c.args.at spot.part spot.within) parts
+    spot.part part c.in-Ok.ensures.ok c.index_mut.ensures.value in
     IfErr-weaker c.insert.result _ _
-    (λ e same. (same.0, same_at_part items parts spot.part part c.insert.new.self known.0 same.1 ∙ c.spot_for.ensures.same)) c.insert.ensures.err
+    (λ e same. (
+      same.0,
+      same_at_part items parts spot.part part c.insert.new.self known.0 same.1
+          ∙ c.spot_for.ensures.same,
+    )) c.insert.ensures.err

@@ -1,4 +1,4 @@
-use Rattle.std.proofs.Common.{◌≡◌, ◌<◌, ◌≤◌, ◌+◌, length, take, drop}
+use Rattle.std.proofs.Common.{◌≡◌, ◌<◌, ◌+◌, length, take}
 use Rattle.std.specs.List.{flat_map}
 use Rattle.cv_chunks.proofs.part.place_of.Given as goal
 

@@ -1,7 +1,5 @@
-use Rattle.std.proofs.Common.{◌≡◌, length, set, ap, ◌∙◌, arith, rules}
+use Rattle.std.proofs.Common.{◌≡◌, length, ap, ◌∙◌, arith, rules}
 use Rattle.std.specs.List.{flat_map}
-use Rattle.std.specs.Prelude.{remove}
-use Rattle.std.proofs.lemmas.Result.{on_err_weaker}
 use Rattle.std.proofs.lemmas.Option.{slice_get_within}
 use Rattle.cv_chunks.proofs.PartLemmas.{at_part, remove_at_place, same_at_part, without_empty}
 use Rattle.cv_chunks.specs.Parts.{IsWithin}
@@ -13,8 +11,13 @@ returns-in_err-remove-clause-err g c =
     let parts = c.args.parts.now.items in
     let place = c.place_of-place.result in
     let part = c.index_mut-part.result.now in
-    let known = at_part (IsWithin items parts c.args.at place.part place.within) parts place.part part (rw c.as_slice.ensures.value at c.place_of-place.ensures) c.index_mut-part.ensures.value in
-    search (rules, same_at_part items parts place.part part c.remove.new.self known.0 c.in_err-remove.ensures.err)
+    let known = at_part (IsWithin items parts c.args.at place.part place.within) parts place.part part (rw
+    c.as_slice.ensures.value at c.place_of-place.ensures) c.index_mut-part.ensures.value in
+    search (
+      rules,
+      same_at_part items parts place.part part c.remove.new.self known.0
+          c.in_err-remove.ensures.err,
+    )
 
 pub returns-then-len-eq0-clause-ok : goal.returns-then-len-eq0-clause-ok
 returns-then-len-eq0-clause-ok g c =
@@ -22,12 +25,14 @@ returns-then-len-eq0-clause-ok g c =
     let parts = c.args.parts.now.items in
     let place = c.place_of-place.result in
     let part = c.index_mut-part.result.now in
-    let known = at_part (IsWithin items parts c.args.at place.part place.within) parts place.part part (rw c.as_slice.ensures.value at c.place_of-place.ensures) c.index_mut-part.ensures.value in
+    let known = at_part (IsWithin items parts c.args.at place.part place.within) parts place.part part (rw
+    c.as_slice.ensures.value at c.place_of-place.ensures) c.index_mut-part.ensures.value in
     let here = slice_get_within parts place.part part known.0 in
     let empty : length (items c.remove.new.self) ≡ 0 = omega (arith, c.len.ensures) in
     ap (flat_map items) c.remove-then-len-eq0.ensures.items
     ∙ without_empty items parts place.part c.remove.new.self here empty
-    ∙ remove_at_place items parts c.args.at place.part place.within part c.remove.new.self known.1 c.in_ok-remove.ensures.ok
+    ∙ remove_at_place items parts c.args.at place.part place.within part c.remove.new.self known.1
+    c.in_ok-remove.ensures.ok
 
 pub returns-else-len-eq0-clause-ok : goal.returns-else-len-eq0-clause-ok
 returns-else-len-eq0-clause-ok g c =
@@ -35,5 +40,7 @@ returns-else-len-eq0-clause-ok g c =
     let parts = c.args.parts.now.items in
     let place = c.place_of-place.result in
     let part = c.index_mut-part.result.now in
-    let known = at_part (IsWithin items parts c.args.at place.part place.within) parts place.part part (rw c.as_slice.ensures.value at c.place_of-place.ensures) c.index_mut-part.ensures.value in
-    remove_at_place items parts c.args.at place.part place.within part c.remove.new.self known.1 c.in_ok-remove.ensures.ok
+    let known = at_part (IsWithin items parts c.args.at place.part place.within) parts place.part part (rw
+    c.as_slice.ensures.value at c.place_of-place.ensures) c.index_mut-part.ensures.value in
+    remove_at_place items parts c.args.at place.part place.within part c.remove.new.self known.1
+    c.in_ok-remove.ensures.ok
