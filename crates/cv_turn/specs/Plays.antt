@@ -1,4 +1,4 @@
--- What each step on the table tells the seat that makes it: of the number found and of the seat before and after.
+-- What each step on the table tells the seat that makes it, by the number found and the seat before.
 use Rattle.std.specs.Prelude.{◌≡◌, ◌≢◌, ℕ, List, [], ◌∷◌, Option, Some, None}
 use Rattle.atomic_table.specs.Table.{Me, Step, rest}
 use Rattle.cv_turn.specs.declared.view.View.{View}
@@ -21,10 +21,11 @@ module _ {S F E : Type 0} where
   -- it has seen the longer of the lists that it knew, which begins with both
   abbrev pub HasLearned : Step S → Me S (View F E) → ℕ → Me S (View F E) → Type 0
   HasLearned st me n after =
-      (after ≡ (looked me.0, me.1)) × StartsWith (looked me.0).seen me.0.seen × StartsWith (looked me.0).seen me.0.told
+      (after ≡ (looked me.0, me.1))
+      × StartsWith (looked me.0).seen me.0.seen × StartsWith (looked me.0).seen me.0.told
 
 module _ {H F E : Type 0} (fixed : H → F) (entries : H → List E) (caller : E → ℕ) where
-  -- what the view says is true of the value: its fixed part, how its list begins, and the entries of each own number
+  -- What the view says is true of the value: its fixed part, how its list begins, and the entries of each own number
   pub record IsTrueOf (v : View F E) (value : H) : Type 0 where
     pub known : v.fixed ≡ Some (fixed value)
     pub seen : StartsWith (entries value) v.seen
@@ -33,7 +34,8 @@ module _ {H F E : Type 0} (fixed : H → F) (entries : H → List E) (caller : E
   -- where its turn has come it has taken the slot with the value; else nothing changed
   abbrev pub HasLooked : Step (Option H) → Me (Option H) (View F E) → ℕ → Me (Option H) (View F E) → Type 0
   HasLooked st me n after =
-      (n ≡ me.0.ticket → (value : H) × (after ≡ (entered me.0 (entries value), (0, Some value) ∷ me.1)) × IsTrueOf me.0 value)
+      (n ≡ me.0.ticket →
+      (value : H) × (after ≡ (entered me.0 (entries value), (0, Some value) ∷ me.1)) × IsTrueOf me.0 value)
       × (n ≢ me.0.ticket → after ≡ me)
 
 module _ {H E : Type 0} (entries : H → List E) where

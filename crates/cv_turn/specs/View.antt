@@ -6,11 +6,35 @@ use Rattle.cv_turn.specs.Held.{longer, grown}
 module _ {F E : Type 0} where
   -- the first seat has all numbers, and nothing was made yet
   abbrev pub newcomer : F → ℕ → View F E
-  newcomer fixed callers = record { fixed = Some fixed; first = 0; count = callers; own = replicate callers []; seen = []; told = []; waits = false; ticket = 0; inside = false; taken = []; plan = 0 }
+  newcomer fixed callers = record {
+    fixed = Some fixed;
+    first = 0;
+    count = callers;
+    own = replicate callers [];
+    seen = [];
+    told = [];
+    waits = false;
+    ticket = 0;
+    inside = false;
+    taken = [];
+    plan = 0;
+  }
 
   -- a seat that was joined to another knows nothing and has no numbers
   abbrev pub spent : View F E
-  spent = record { fixed = None; first = 0; count = 0; own = []; seen = []; told = []; waits = false; ticket = 0; inside = false; taken = []; plan = 0 }
+  spent = record {
+    fixed = None;
+    first = 0;
+    count = 0;
+    own = [];
+    seen = [];
+    told = [];
+    waits = false;
+    ticket = 0;
+    inside = false;
+    taken = [];
+    plan = 0;
+  }
 
   -- it has drawn a ticket
   abbrev pub drawn : View F E → ℕ → View F E
@@ -38,7 +62,12 @@ module _ {F E : Type 0} where
 
   -- what the new seat gets
   abbrev pub given_part : View F E → View F E
-  given_part v = record v { first = v.first + (v.count - v.plan); count = v.plan; own = drop (v.count - v.plan) v.own; plan = 0 }
+  given_part v = record v {
+    first = v.first + (v.count - v.plan);
+    count = v.plan;
+    own = drop (v.count - v.plan) v.own;
+    plan = 0;
+  }
 
   -- it takes in another seat's numbers, and is told what that one had seen
   abbrev pub joined : View F E → View F E → View F E

@@ -17,7 +17,8 @@ pub struct Guard<H: Held> {
 impl<H: Held> Guard<H> {
     /// The value, which the caller alone has. It takes no memory.
     pub fn held(&mut self) -> &mut H
-        ensures* lends { sem 𝓛 (Lends (the_row H.row H.Fixed.row H.Entry.row) H.row self.entry result (with_held self.old)) }
+        ensures* lends { sem 𝓛 (Lends (the_row H.row H.Fixed.row H.Entry.row) H.row self.entry result
+            (with_held self.old)) }
         ensures value { result.now ≡ held_of self.old }
     {
         &mut self.held

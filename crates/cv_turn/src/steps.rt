@@ -2,7 +2,7 @@
 ghost use Rattle.std.specs.Prelude.{◌≡◌, ◌+◌, ◌<◌, ◌≤◌, [], ◌∷◌, length, true, false, Some, None, All};
 ghost use Rattle.cv_turn.specs.Pass.{MayAdd};
 ghost use Rattle.cv_turn.specs.Plays.{IsTrueOf};
-ghost use Rattle.cv_turn.specs.Rule.{IsSized, IsSameSeat, IsIdle, IsWaiting};
+ghost use Rattle.cv_turn.specs.Rule.{IsSized, IsSeatOf, IsSameSeat, IsIdle, IsWaiting, IsInTurn};
 ghost use Rattle.cv_turn.specs.View.{drawn, entered, counted, unticketed, planned, kept_part, given_part, joined, looked};
 ghost use Rattle.cv_turn.specs.Held.{StartsWith};
 
@@ -14,7 +14,7 @@ use std::sync::Wait;
 
 /// Draws the next ticket.
 pub(crate) fn draw<H: Held>(base: &Base<H>, seat: &mut Place<H>) -> u64
-    requires table { IsSized base.now.shared.table_id × (seat.old.table_id ≡ base.now.shared.table_id) }
+    requires table { IsSeatOf base.now.shared.table_id seat.old }
     requires idle { IsIdle seat.old.me × (0 < seat.old.me.0.count) }
     ensures seat { IsSameSeat seat.old seat.new }
     ensures drawn { seat.new.me ≡ (drawn seat.old.me.0 result, []) }
@@ -22,10 +22,10 @@ pub(crate) fn draw<H: Held>(base: &Base<H>, seat: &mut Place<H>) -> u64
     base.shared.fetch_add::<Draws>(seat, 1, 1)
 }
 
-/// Waits for the ticket's turn and takes the value. It looks a few times, yields a few times, and then sleeps until a
-/// turn ends.
+/// Waits for the ticket's turn and takes the value. It looks and yields a few times, and then sleeps between looks
+/// until a turn ends.
 pub(crate) fn take<H: Held, R: Wait>(rt: &R, base: &Base<H>, seat: &mut Place<H>, ticket: u64) -> H
-    requires table { IsSized base.now.shared.table_id × (seat.old.table_id ≡ base.now.shared.table_id) }
+    requires table { IsSeatOf base.now.shared.table_id seat.old }
     requires waits { IsWaiting ticket seat.old.me }
     ensures seat { IsSameSeat seat.old seat.new }
     ensures taken { seat.new.me ≡ (entered seat.old.me.0 (H.entries result), (0, None) ∷ []) }
@@ -48,8 +48,8 @@ pub(crate) fn take<H: Held, R: Wait>(rt: &R, base: &Base<H>, seat: &mut Place<H>
 
 /// Puts the value into the slot and counts its new entry, if there is one. The answer is the length of the list.
 fn lay_down<H: Held>(base: &Base<H>, seat: &mut Place<H>, held: H, before: u64) -> u64
-    requires table { IsSized base.now.shared.table_id × (seat.old.table_id ≡ base.now.shared.table_id) }
-    requires turn { (seat.old.me.0.inside ≡ true) × (seat.old.me.1 ≡ (0, None) ∷ []) × (before ≡ length seat.old.me.0.taken) }
+    requires table { IsSeatOf base.now.shared.table_id seat.old }
+    requires turn { IsInTurn seat.old.me × (before ≡ length seat.old.me.0.taken) }
     requires list { MayAdd H.caller seat.old.me.0.first seat.old.me.0.taken (H.entries held) }
     ensures seat { IsSameSeat seat.old seat.new }
     ensures after { seat.new.me ≡ (counted seat.old.me.0 (H.entries held), (0, Some held) ∷ []) }
@@ -77,8 +77,8 @@ fn wake<H: Held>(base: &Base<H>, served: u64)
 /// Puts the value back, counts its new entry if there is one, and serves the next ticket. The answer is the length of
 /// the list.
 pub(crate) fn put_back<H: Held>(base: &Base<H>, seat: &mut Place<H>, held: H, before: u64) -> u64
-    requires table { IsSized base.now.shared.table_id × (seat.old.table_id ≡ base.now.shared.table_id) }
-    requires turn { (seat.old.me.0.inside ≡ true) × (seat.old.me.1 ≡ (0, None) ∷ []) × (before ≡ length seat.old.me.0.taken) }
+    requires table { IsSeatOf base.now.shared.table_id seat.old }
+    requires turn { IsInTurn seat.old.me × (before ≡ length seat.old.me.0.taken) }
     requires fixed { seat.old.me.0.fixed ≡ Some (H.fixed held) }
     requires list { MayAdd H.caller seat.old.me.0.first seat.old.me.0.taken (H.entries held) }
     ensures seat { IsSameSeat seat.old seat.new }
@@ -93,7 +93,7 @@ pub(crate) fn put_back<H: Held>(base: &Base<H>, seat: &mut Place<H>, held: H, be
 
 /// Hands over so many of the last numbers to a new seat, which knows what this one has seen.
 pub(crate) fn cut<H: Held>(base: &Base<H>, seat: &mut Place<H>, callers: u64) -> Place<H>
-    requires table { IsSized base.now.shared.table_id × (seat.old.table_id ≡ base.now.shared.table_id) }
+    requires table { IsSeatOf base.now.shared.table_id seat.old }
     requires idle { IsIdle seat.old.me × (callers ≤ seat.old.me.0.count) × (0 < seat.old.me.0.count) }
     ensures seat { IsSameSeat seat.old seat.new }
     ensures kept { seat.new.me ≡ (kept_part (planned seat.old.me.0 callers), []) }
@@ -105,15 +105,16 @@ pub(crate) fn cut<H: Held>(base: &Base<H>, seat: &mut Place<H>, callers: u64) ->
     base.shared.split_seat::<Cuts>(seat)
 }
 
-/// Takes in another seat: its numbers, which are those behind this one's, and what it has seen.
+/// Takes in another seat: its numbers, which stand behind this one's, and what it has seen.
 pub(crate) fn merge<H: Held>(base: &Base<H>, seat: &mut Place<H>, other: Place<H>)
-    requires table { IsSized base.now.shared.table_id × (seat.old.table_id ≡ base.now.shared.table_id) }
+    requires table { IsSeatOf base.now.shared.table_id seat.old }
     requires idle { IsIdle seat.old.me × (0 < seat.old.me.0.count) }
-    requires other { (other.table_id ≡ base.now.shared.table_id) × IsIdle other.me }
+    requires other { IsSeatOf base.now.shared.table_id other × IsIdle other.me }
     requires next { 0 < other.me.0.count → other.me.0.first ≡ seat.old.me.0.first + seat.old.me.0.count }
     ensures seat { IsSameSeat seat.old seat.new }
     ensures both { seat.new.me ≡ (looked (joined seat.old.me.0 other.me.0), []) }
-    ensures seen { StartsWith seat.new.me.0.seen seat.old.me.0.seen × StartsWith seat.new.me.0.seen other.me.0.seen }
+    ensures own_seen { StartsWith seat.new.me.0.seen seat.old.me.0.seen }
+    ensures other_seen { StartsWith seat.new.me.0.seen other.me.0.seen }
 {
     base.shared.join_seat::<Meets>(seat, other);
     base.shared.load::<Learns>(seat, 0);
@@ -121,7 +122,7 @@ pub(crate) fn merge<H: Held>(base: &Base<H>, seat: &mut Place<H>, other: Place<H
 
 /// Ends the table, and gives the value.
 pub(crate) fn take_out<H: Held>(base: Base<H>, seat: Place<H>) -> H
-    requires table { IsSized base.shared.table_id × (seat.table_id ≡ base.shared.table_id) }
+    requires table { IsSeatOf base.shared.table_id seat }
     requires idle { IsIdle seat.me × (0 < seat.me.0.count) }
     requires whole { seat.me.0.count ≡ base.shared.key.callers }
     ensures value { IsTrueOf H.fixed H.entries H.caller seat.me.0 result }

@@ -1,8 +1,8 @@
 //! The lock: who holds a pass can take the value in turn, hand over numbers, and tell what it has seen.
 ghost use Rattle.std.specs.Prelude.{◌≡◌, ◌+◌, ◌-◌, ◌<◌, ◌≤◌, ◌↔◌, [], ◌++◌, length, take, drop, replicate, Some, None, All, IfOk, IsOkAnd, IsTrue};
 ghost use Rattle.cv_turn.specs.Guard.{held_of, IsGuardOf};
-ghost use Rattle.cv_turn.specs.Held.{StartsWith, longer, own_of};
-ghost use Rattle.cv_turn.specs.Pass.{IsFirst, IsNoteOf, IsPartOf, MayLeave, after_turn};
+ghost use Rattle.cv_turn.specs.Held.{StartsWith, longer};
+ghost use Rattle.cv_turn.specs.Pass.{HasOwn, IsFirst, IsNoteOf, IsPartOf, MayLeave, after_join, after_turn, without_last};
 
 use crate::NoMemory;
 use crate::guard::Guard;
@@ -66,7 +66,7 @@ impl<H: Held> Turn<H> {
         requires free { pass.old.turn ≡ None }
         ensures fixed { pass.old.fixed ≡ Some (H.fixed (held_of result)) }
         ensures seen { StartsWith (H.entries (held_of result)) pass.old.seen }
-        ensures own { pass.old.own ≡ own_of H.caller pass.old.first (length pass.old.own) (H.entries (held_of result)) }
+        ensures own { HasOwn H.caller pass.old (H.entries (held_of result)) }
         ensures pass { pass.new ≡ record pass.old { turn = Some (H.entries (held_of result)) } }
         ensures guard { IsGuardOf pass.new result }
     {
@@ -96,7 +96,7 @@ impl<H: Held> Turn<H> {
         requires own { pass.old.table ≡ self.now.table }
         requires free { pass.old.turn ≡ None }
         requires range { (0 < callers) × (callers < length pass.old.own) }
-        ensures kept { pass.new ≡ record pass.old { own = take (length pass.old.own - callers) pass.old.own } }
+        ensures kept { pass.new ≡ without_last callers pass.old }
         ensures given { IsOkAnd result (IsPartOf pass.old callers) }
     {
         let seat = cut(&self.base, &mut pass.seat, u64::from(callers));
@@ -114,8 +114,9 @@ impl<H: Held> Turn<H> {
         requires own { (pass.old.table ≡ self.now.table) × (other.table ≡ self.now.table) }
         requires free { (pass.old.turn ≡ None) × (other.turn ≡ None) }
         requires next { other.first ≡ pass.old.first + length pass.old.own }
-        ensures both { pass.new ≡ record pass.old { seen = longer pass.old.seen other.seen; own = pass.old.own ++ other.own } }
-        ensures seen { StartsWith pass.new.seen pass.old.seen × StartsWith pass.new.seen other.seen }
+        ensures both { pass.new ≡ after_join pass.old other }
+        ensures own_seen { StartsWith pass.new.seen pass.old.seen }
+        ensures other_seen { StartsWith pass.new.seen other.seen }
     {
         let Pass {
             seat,
@@ -147,7 +148,8 @@ impl<H: Held> Turn<H> {
         requires own { (pass.old.table ≡ self.now.table) × (note.table ≡ self.now.table) }
         requires free { pass.old.turn ≡ None }
         ensures both { pass.new ≡ record pass.old { seen = longer pass.old.seen note.seen } }
-        ensures seen { StartsWith pass.new.seen pass.old.seen × StartsWith pass.new.seen note.seen }
+        ensures own_seen { StartsWith pass.new.seen pass.old.seen }
+        ensures note_seen { StartsWith pass.new.seen note.seen }
     {
         let Note { seat, length } = note;
         merge(&self.base, &mut pass.seat, seat);
@@ -170,7 +172,8 @@ impl<H: Held> Turn<H> {
         requires whole { length pass.own ≡ self.callers }
         ensures fixed { pass.fixed ≡ Some (H.fixed result) }
         ensures seen { StartsWith (H.entries result) pass.seen }
-        ensures own { pass.own ≡ own_of H.caller 0 self.callers (H.entries result) }
+        ensures first { pass.first ≡ 0 }
+        ensures own { HasOwn H.caller pass (H.entries result) }
         ensures named { All (λ e. H.caller e < self.callers) (H.entries result) }
     {
         let Turn { base, callers: _ } = self;

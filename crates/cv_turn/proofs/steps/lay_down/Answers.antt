@@ -19,12 +19,12 @@ pub fetch_add-requires : goal.fetch_add-requires
 fetch_add-requires g c =
     let me = c.exchange.ensures.3 in
     let len = c.len-after.ensures in
-    let before = c.requires.turn.2 in
+    let before = c.requires.turn.1 in
     let more = c.if-before-after.true in
     let entry = added g.H.Held.caller _ _ _ c.requires.list (omega arith) in (
       search rules,
       search rules,
-      counts_entry _ _ _ _ _ _ _ _ c.args.held entry.0 (ap (λ m. m.0.inside) me ∙ c.requires.turn.0) (search rules) (entry.1 ∙ sym (ap (λ m. m.0.first) me))
+      counts_entry _ _ _ _ _ _ _ _ c.args.held entry.0 (ap (λ m. m.0.inside) me ∙ c.requires.turn.0.0) (search rules) (entry.1 ∙ sym (ap (λ m. m.0.first) me))
           (entry.2 ∙ sym (ap (λ m. m.0.taken ++ entry.0 ∷ []) me)) (search rules),
     )
 
@@ -32,10 +32,10 @@ pub load-requires : goal.load-requires
 load-requires g c =
     let me = c.exchange.ensures.3 in
     let len = c.len-after.ensures in
-    let before = c.requires.turn.2 in
+    let before = c.requires.turn.1 in
     let less = c.if-before-after.false in
     let same = not_added g.H.Held.caller _ _ _ c.requires.list (omega arith) in (
       search rules,
       search rules,
-      counts_none _ _ _ _ _ _ _ _ c.args.held (ap (λ m. m.0.inside) me ∙ c.requires.turn.0) (search rules) (same ∙ sym (ap (λ m. m.0.taken) me)),
+      counts_none _ _ _ _ _ _ _ _ c.args.held (ap (λ m. m.0.inside) me ∙ c.requires.turn.0.0) (search rules) (same ∙ sym (ap (λ m. m.0.taken) me)),
     )
