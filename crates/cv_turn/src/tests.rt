@@ -103,6 +103,19 @@ fn work<R: Threads + Wait + Sync>(
     pass
 }
 
+fn is_sent<T: Send>() {}
+
+fn is_shared<T: Sync>() {}
+
+/// Where a value may go to another thread, so may its turn, which threads share, the passes, the notes and the guards.
+fn goes_to_threads<H: Held + Send>() {
+    is_sent::<Turn<H>>();
+    is_shared::<Turn<H>>();
+    is_sent::<Pass<H>>();
+    is_sent::<Note<H>>();
+    is_sent::<Guard<H>>();
+}
+
 /// The marks of one caller, in order.
 fn marks_of(alloc: Global, diary: &Diary, number: u32) -> Result<Vec<u32>, NoMemory> {
     let mut marks = Vec::new(alloc);
@@ -120,6 +133,7 @@ fn eight_threads_take_a_hundred_turns_each(rt: HostRuntime) -> Result<(), Fail> 
         name: 7,
         marks: Vec::new(rt.alloc()),
     };
+    goes_to_threads::<Diary>();
     let (turn, pass) = Turn::new(rt.alloc(), diary, 8)?;
     let pass = work(&rt, &turn, pass, 8);
     assert!(rt; turn.whole(&pass));
