@@ -14,6 +14,7 @@ use std::sync::Wait;
 use std::thread;
 use std::thread::Threads;
 use std::time::Instant;
+use std::rt::Clock;
 
 /// Numbers, each beside that of the caller that added it.
 #[derive(Drop)]
@@ -113,7 +114,12 @@ fn work<R: Threads + Wait + Sync>(
     pass
 }
 
-fn timed(rt: &HostRuntime, threads: u32, turns: u32, adds: bool) -> io::Result<(u64, u64)>
+fn timed<R: Threads + Wait + Sync + Clock + AllocGlobal>(
+    rt: &R,
+    threads: u32,
+    turns: u32,
+    adds: bool,
+) -> io::Result<(u64, u64)>
     requires { (0 < threads) × (threads < 65) }
 {
     let tally = Tally {
@@ -123,7 +129,7 @@ fn timed(rt: &HostRuntime, threads: u32, turns: u32, adds: bool) -> io::Result<(
     let (turn, pass) = Turn::new(rt.alloc(), tally, threads)?;
     let start = Instant::now(rt)?;
     let pass = work(rt, &turn, pass, threads, turns, adds);
-    let nanos = start.elapsed(rt)?.as_nanos() as u64;
+    let nanos = u64::try_from(start.elapsed(rt)?.as_nanos()).unwrap_or(0);
     let entries = if turn.whole(&pass) {
         turn.close(pass).len()
     } else {
