@@ -4,12 +4,13 @@ use Rattle.std.proofs.lemmas.List.{drop_all}
 use Rattle.std.proofs.lemmas.Bool.{ne_eqb}
 use Rattle.cv_model.specs.declared.grid.Cell.{Cell}
 use Rattle.cv_reading.specs.Tokens.{Token, cut}
-use Rattle.cv_decimal.specs.declared.fixed.Fixed.{Fixed}
-use Rattle.cv_decimal.specs.Reader.{decimal_of}
+use Rattle.cv_number.specs.declared.fixed.Fixed.{Fixed}
+use Rattle.cv_number.specs.Reader.{decimal_of}
 use Rattle.cv_grid.specs.declared.error.GridError.{GridError}
 use Rattle.cv_grid.specs.declared.error.GridError.TheVariants.{BadNumber, TooFew, TooMany}
 use Rattle.cv_grid.specs.declared.value.Spelt.{Spelt}
-use Rattle.cv_grid.specs.Tokens.{is_space, byte_kind}
+use Rattle.cv_grid.specs.Tokens.{byte_kind}
+use Rattle.cv_reading.specs.Space.{is_space}
 use Rattle.cv_grid.specs.Scanning.{front_len, IsFront}
 use Rattle.cv_grid.specs.Cells.{cell_of}
 use Rattle.cv_grid.specs.Answers.{if_whole, with_decimal, cells_from}

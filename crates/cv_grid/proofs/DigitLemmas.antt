@@ -6,15 +6,15 @@ use Rattle.std.proofs.lemmas.List.Folds.{list_all_more}
 use Rattle.std.proofs.lemmas.List.Sums.{fold_more}
 use Rattle.std.specs.Char.{is_ascii_digit}
 use Rattle.std.specs.List.{list_all, fold}
-use Rattle.cv_model.specs.Rounding.{rnd}
-use Rattle.cv_decimal.specs.declared.mark.Mark.{Mark}
-use Rattle.cv_decimal.specs.declared.mark.Mark.TheVariants.{Digit}
-use Rattle.cv_decimal.specs.declared.fixed.Fixed.TheVariants.{Value, High}
-use Rattle.cv_decimal.specs.Marks.{mark_of, is_digit}
-use Rattle.cv_decimal.specs.Spellings.{NoSign, Digits, NoExponent, Number, digit_marks, number_from, fixed, value, Spells}
-use Rattle.cv_decimal.specs.Reader.{decimal_of}
-use Rattle.cv_decimal.proofs.Values.{decimal_of_spelt}
-use Rattle.cv_grid.specs.Tokens.{is_space}
+use Rattle.cv_number.specs.Rounding.{rnd}
+use Rattle.cv_number.specs.declared.mark.Mark.{Mark}
+use Rattle.cv_number.specs.declared.mark.Mark.TheVariants.{Digit}
+use Rattle.cv_number.specs.declared.fixed.Fixed.TheVariants.{Value, High}
+use Rattle.cv_number.specs.Mark.{mark_of, is_digit}
+use Rattle.cv_number.specs.Spellings.{NoSign, Digits, NoExponent, Number, digit_marks, number_from, fixed, value, Spells}
+use Rattle.cv_number.specs.Reader.{decimal_of}
+use Rattle.cv_decimal.proofs.ValueLemmas.{decimal_of_spelt}
+use Rattle.cv_reading.specs.Space.{is_space}
 use Rattle.cv_grid.specs.Scanning.{front_len, IsFront, AreDigits}
 use Rattle.cv_grid.proofs.ScanLemmas.{len_by}
 use Rattle.cv_grid.specs.Words.{number_of}

@@ -4,8 +4,9 @@ use Rattle.std.proofs.Math.Seq.{drop-cons}
 use Rattle.std.proofs.lemmas.List.{drop-drop}
 use Rattle.std.specs.List.{prefix_len}
 use Rattle.cv_reading.specs.Tokens.{ByteKind, White, Word, Token, is_word, cut}
-use Rattle.cv_reading.proofs.Cutting.{cut_white, cut_word}
-use Rattle.cv_grid.specs.Tokens.{is_space, byte_kind}
+use Rattle.cv_reading.proofs.TokenLemmas.{cut_white, cut_word}
+use Rattle.cv_grid.specs.Tokens.{byte_kind}
+use Rattle.cv_reading.specs.Space.{is_space}
 use Rattle.cv_grid.specs.Scanning.{front_len}
 
 -- the kind of a byte by the test on it

@@ -3,8 +3,8 @@ use Rattle.std.specs.Prelude.{ℕ, ◌+◌, ◌*◌, Bool, true, false, ◌==◌
 use Rattle.cv_model.specs.Grids.{CellGrid}
 use Rattle.cv_model.specs.declared.grid.Cell.{Cell}
 use Rattle.cv_reading.specs.Tokens.{Token}
-use Rattle.cv_decimal.specs.declared.fixed.Fixed.{Fixed}
-use Rattle.cv_decimal.specs.Reader.{decimal_of}
+use Rattle.cv_number.specs.declared.fixed.Fixed.{Fixed}
+use Rattle.cv_number.specs.Reader.{decimal_of}
 use Rattle.cv_grid.specs.declared.error.GridError.{GridError}
 use Rattle.cv_grid.specs.declared.error.GridError.TheVariants.{MissingWord, BadWord, BadNumber, TooFew, TooMany, TooLarge}
 use Rattle.cv_grid.specs.declared.error.GridWord.{GridWord}

@@ -3,8 +3,8 @@ use Rattle.std.specs.Prelude.{if◌then◌else◌, ℤ, pos, negsuc, Option, Som
 use Rattle.std.specs.Ordering.{int_eq}
 use Rattle.cv_model.specs.declared.grid.Cell.{Cell}
 use Rattle.cv_model.specs.declared.grid.Cell.TheVariants.{Value as Full, Void}
-use Rattle.cv_decimal.specs.declared.fixed.Fixed.{Fixed}
-use Rattle.cv_decimal.specs.declared.fixed.Fixed.TheVariants.{Value, High, Low, NotNumber}
+use Rattle.cv_number.specs.declared.fixed.Fixed.{Fixed}
+use Rattle.cv_number.specs.declared.fixed.Fixed.TheVariants.{Value, High, Low, NotNumber}
 
 -- the number of a decimal; one beyond the range counts as the limit, and `nan` is none
 abbrev pub limited : Fixed → Option ℤ

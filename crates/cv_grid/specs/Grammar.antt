@@ -5,8 +5,8 @@ use Rattle.std.specs.Prelude.{◌≡◌, ℕ, ◌+◌, ◌*◌, ◌<◌, Bool, t
 use Rattle.cv_model.specs.Grids.{CellGrid}
 use Rattle.cv_model.specs.declared.grid.Cell.{Cell}
 use Rattle.cv_reading.specs.Tokens.{Token}
-use Rattle.cv_decimal.specs.declared.fixed.Fixed.{Fixed}
-use Rattle.cv_decimal.specs.Reader.{decimal_of}
+use Rattle.cv_number.specs.declared.fixed.Fixed.{Fixed}
+use Rattle.cv_number.specs.Reader.{decimal_of}
 use Rattle.cv_grid.specs.declared.settings.Settings.{Settings}
 use Rattle.cv_grid.specs.declared.layout.Layout.{Layout}
 use Rattle.cv_grid.specs.Tokens.{tokens_of}

@@ -1,6 +1,6 @@
 -- Where the cells of a header lie.
 use Rattle.std.specs.Prelude.{ℕ, ◌+◌, ◌*◌, nat_lt, Bool, ◌||◌, ℤ, pos, negsuc, ◌+ℤ◌, ◌-ℤ◌, ◌*ℤ◌, int_lt, Option, Some, None, Result, Ok, Err}
-use Rattle.cv_decimal.specs.declared.fixed.Fixed.{Fixed}
+use Rattle.cv_number.specs.declared.fixed.Fixed.{Fixed}
 use Rattle.cv_grid.specs.declared.error.GridWord.{GridWord}
 use Rattle.cv_grid.specs.declared.error.GridWord.TheVariants.{Ncols, Nrows, Xll, Yll, Cellsize, Dx, Dy}
 use Rattle.cv_grid.specs.declared.settings.Anchor.{Anchor}

@@ -1,8 +1,8 @@
 -- Why a text is no grid: its tokens are judged from left to right, and the first that is wrong decides.
 use Rattle.std.specs.Prelude.{◌≡◌, ℕ, ◌+◌, ◌*◌, ◌<◌, true, Ok, List, [], ◌∷◌, ◌++◌, length, Option, Some, None, Err}
 use Rattle.cv_reading.specs.Tokens.{Token}
-use Rattle.cv_decimal.specs.declared.fixed.Fixed.{Fixed}
-use Rattle.cv_decimal.specs.Reader.{decimal_of}
+use Rattle.cv_number.specs.declared.fixed.Fixed.{Fixed}
+use Rattle.cv_number.specs.Reader.{decimal_of}
 use Rattle.cv_grid.specs.declared.error.GridError.{GridError}
 use Rattle.cv_grid.specs.declared.error.GridError.TheVariants.{MissingWord, BadWord, BadNumber, TooFew, TooMany, TooLarge, NoMemory}
 use Rattle.cv_grid.specs.declared.error.GridWord.{GridWord}

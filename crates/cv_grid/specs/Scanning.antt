@@ -3,7 +3,7 @@ use Rattle.std.specs.Prelude.{◌≡◌, ℕ, ◌<◌, ◌≤◌, true, List, le
 use Rattle.std.specs.Char.{is_ascii_digit}
 use Rattle.std.specs.List.{prefix_len, list_all}
 use Rattle.cv_reading.specs.Tokens.{is_word}
-use Rattle.cv_decimal.specs.Reader.{decimal_of}
+use Rattle.cv_number.specs.Reader.{decimal_of}
 use Rattle.cv_grid.specs.Tokens.{byte_kind}
 use Rattle.cv_grid.specs.Words.{number_of}
 use Rattle.cv_grid.specs.declared.value.Spelt.{Spelt}

@@ -1,11 +1,8 @@
 -- The tokens of a grid's text.
-use Rattle.std.specs.Prelude.{ℕ, ◌+◌, Bool, ◌||◌, ◌==◌, nat_eq, if◌then◌else◌, List, [], ◌∷◌, take, drop, count_by}
+use Rattle.std.specs.Prelude.{ℕ, ◌+◌, ◌==◌, nat_eq, if◌then◌else◌, List, [], ◌∷◌, take, drop, count_by}
 use Rattle.std.specs.List.{starts_with}
+use Rattle.cv_reading.specs.Space.{is_space}
 use Rattle.cv_reading.specs.Tokens.{ByteKind, White, Word, Token, cut}
-
--- space, tab, CR and LF
-abbrev pub is_space : ℕ → Bool
-is_space b = b == 32 || b == 9 || b == 13 || b == 10
 
 -- white space stands between tokens, and other bytes are one as long as they go on
 abbrev pub byte_kind : ℕ → ByteKind

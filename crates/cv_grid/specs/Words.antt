@@ -3,9 +3,9 @@ use Rattle.std.specs.Prelude.{ℕ, ◌+◌, ◌-◌, ◌*◌, ◌<◌, nat_lt, �
 use Rattle.std.specs.Char.{is_ascii_digit, is_ascii_alphabetic}
 use Rattle.std.specs.List.{list_all}
 use Rattle.std.specs.Str.{str_eq_ignore_ascii_case}
-use Rattle.cv_decimal.specs.declared.fixed.Fixed.{Fixed}
-use Rattle.cv_decimal.specs.declared.fixed.Fixed.TheVariants.{Value}
-use Rattle.cv_decimal.specs.Reader.{decimal_of}
+use Rattle.cv_number.specs.declared.fixed.Fixed.{Fixed}
+use Rattle.cv_number.specs.declared.fixed.Fixed.TheVariants.{Value}
+use Rattle.cv_number.specs.Reader.{decimal_of}
 use Rattle.cv_grid.specs.declared.word.Word.{Word}
 use Rattle.cv_grid.specs.declared.word.Word.TheVariants.{Ncols, Nrows, XllCorner, XllCenter, YllCorner, YllCenter, Cellsize, Dx, Dy, NodataValue}
 use Rattle.cv_grid.specs.declared.settings.Anchor.{Anchor}

@@ -7,10 +7,11 @@ ghost use Rattle.cv_grid.specs.Cells.{void_number, cell_of, limited};
 ghost use Rattle.cv_grid.specs.Answers.{cells_from};
 
 use crate::error::GridError;
-use crate::token::{is_space, rest};
+use crate::token::rest;
 use crate::value::first_value;
 use cv_decimal::Fixed;
 use cv_model::{Cell, CellList};
+use cv_reading::is_space;
 use std::alloc::Global;
 
 /// The largest value, 10^15 millionths.

@@ -4,7 +4,7 @@ ghost use Rattle.std.specs.Prelude.{◌≡◌, ◌≤◌, ◌<◌, ◌^◌, leng
 ghost use Rattle.std.specs.Char.{is_ascii_digit};
 ghost use Rattle.std.specs.List.{list_all};
 ghost use Rattle.cv_model.specs.Positions.{IsCoordinate};
-ghost use Rattle.cv_decimal.specs.Reader.{decimal_of};
+ghost use Rattle.cv_number.specs.Reader.{decimal_of};
 ghost use Rattle.cv_grid.specs.Words.{number_of, count_in, count_of, coordinate_of, size_of};
 
 use cv_decimal::Fixed;

@@ -2,16 +2,10 @@
 
 ghost use Rattle.std.specs.Prelude.{◌≡◌, ◌≤◌, ◌<◌, ◌^◌, length, take, drop};
 ghost use Rattle.cv_reading.specs.Tokens.{is_word};
-ghost use Rattle.cv_grid.specs.Tokens.{is_space, byte_kind, without_mark, line_at};
+ghost use Rattle.cv_grid.specs.Tokens.{byte_kind, without_mark, line_at};
 ghost use Rattle.cv_grid.specs.Scanning.{front_len};
 
-/// Is a byte one that stands between tokens.
-#[inline]
-pub fn is_space(byte: u8) -> bool
-    ensures { result ≡ is_space byte }
-{
-    byte == b' ' || byte == b'\t' || byte == b'\r' || byte == b'\n'
-}
+use cv_reading::is_space;
 
 /// The bytes behind a byte order mark, where one stands in front.
 pub fn without_mark(bytes: &[u8]) -> &[u8]

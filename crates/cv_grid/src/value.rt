@@ -1,12 +1,13 @@
 //! The decimals of the cells.
 
 ghost use Rattle.std.specs.Prelude.{◌≡◌, ◌≤◌, ◌<◌, ◌*◌, ◌^◌, length, take, drop, IfSome, IfNone, None, true, slice_index, pos};
-ghost use Rattle.cv_grid.specs.Tokens.{is_space};
-ghost use Rattle.cv_decimal.specs.Reader.{decimal_of};
+ghost use Rattle.cv_reading.specs.Space.{is_space};
+ghost use Rattle.cv_number.specs.Reader.{decimal_of};
 ghost use Rattle.cv_grid.specs.Scanning.{front_len, IsFront, AreDigits};
 
-use crate::token::{front, is_space, token_len};
+use crate::token::{front, token_len};
 use cv_decimal::Fixed;
+use cv_reading::is_space;
 
 /// A decimal at the front of a text, and how many bytes it has.
 #[derive(Clone, Copy)]

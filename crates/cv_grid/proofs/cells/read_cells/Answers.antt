@@ -1,6 +1,6 @@
 -- White space, a token past the last cell, one that is no decimal, one that is a cell, and the end.
 use Rattle.std.proofs.Common.{◌≡◌, ◌<◌, ◌∷◌, ◌++◌, length, take, None, sym, ap, subst, ◌∙◌, [], arith}
-use Rattle.cv_decimal.specs.Reader.{decimal_of}
+use Rattle.cv_number.specs.Reader.{decimal_of}
 use Rattle.cv_grid.specs.Cells.{cell_of}
 use Rattle.cv_grid.specs.Scanning.{IsFront, front_len}
 use Rattle.cv_grid.specs.Answers.{cells_from}
