@@ -1,5 +1,5 @@
 -- What it says that a layout isn't too large.
-use Rattle.std.proofs.Common.{◌≡◌, ℕ, ◌*◌, ◌<◌, ◌≤◌, Bool, true, false, ◌||◌, nat_lt, List, length, ℤ, arith, refl}
+use Rattle.std.proofs.Common.{◌≡◌, ℕ, ◌*◌, ◌≤◌, Bool, true, false, ◌||◌, nat_lt, List, length, ℤ, arith, refl}
 use Rattle.std.proofs.lemmas.Bool.Decides.{nat_tests}
 use Rattle.std.proofs.lemmas.Int.{ints}
 use Rattle.cv_model.specs.declared.grid.Cell.{Cell}
@@ -19,15 +19,19 @@ edge_in z e = grind (arith, ints)
 -- there is room for its cells
 pub room_left : (room : ℕ) (l : Layout) → is_large room l ≡ false → l.cols * l.rows ≤ room
 room_left room l fits =
-    let sizes = neither (nat_lt room (l.cols * l.rows) || is_far l.left2 l.cols l.dx) (is_far l.bottom2 l.rows l.dy) fits in
+    let sizes = neither (nat_lt room (l.cols * l.rows) || is_far l.left2 l.cols l.dx)
+    (is_far l.bottom2 l.rows l.dy) fits in
     let few = (neither (nat_lt room (l.cols * l.rows)) (is_far l.left2 l.cols l.dx) sizes.0).0 in
     grind (arith, nat_tests)
 
 -- and with as many cells it is a grid
-pub is_grid : (room : ℕ) (l : Layout) (cells : List Cell) → IsLaidInRange l → is_large room l ≡ false → length cells ≡ l.cols * l.rows → IsGrid (grid_with l cells)
+pub is_grid : (room : ℕ) (l : Layout) (cells : List Cell) → IsLaidInRange l → is_large room l ≡ false
+    → length cells ≡ l.cols * l.rows → IsGrid (grid_with l cells)
 is_grid room l cells range fits whole =
-    let sizes = neither (nat_lt room (l.cols * l.rows) || is_far l.left2 l.cols l.dx) (is_far l.bottom2 l.rows l.dy) fits in
-    let across = neither (is_beyond l.left2) (is_beyond (far_edge l.left2 l.cols l.dx)) (neither (nat_lt room (l.cols * l.rows)) (is_far l.left2 l.cols l.dx) sizes.0).1 in
+    let sizes = neither (nat_lt room (l.cols * l.rows) || is_far l.left2 l.cols l.dx)
+    (is_far l.bottom2 l.rows l.dy) fits in
+    let across = neither (is_beyond l.left2) (is_beyond (far_edge l.left2 l.cols l.dx))
+    (neither (nat_lt room (l.cols * l.rows)) (is_far l.left2 l.cols l.dx) sizes.0).1 in
     let up = neither (is_beyond l.bottom2) (is_beyond (far_edge l.bottom2 l.rows l.dy)) sizes.1 in
     record {
       wide = range.wide;
@@ -41,6 +45,15 @@ is_grid room l cells range fits whole =
       top = edge_in (far_edge l.bottom2 l.rows l.dy) up.1;
     }
 
-pub is_grid_of : (room : ℕ) (l : Layout) (cells : List Cell) (left bottom : ℤ) → IsLaidInRange l → is_large room l ≡ false → length cells ≡ l.cols * l.rows → left ≡ l.left2 → bottom ≡ l.bottom2
-    → IsGrid (record { cols = l.cols; rows = l.rows; left2 = left; bottom2 = bottom; dx = l.dx; dy = l.dy; cells = cells })
+pub is_grid_of : (room : ℕ) (l : Layout) (cells : List Cell) (left bottom : ℤ) → IsLaidInRange l
+    → is_large room l ≡ false → length cells ≡ l.cols * l.rows → left ≡ l.left2 → bottom ≡ l.bottom2
+    → IsGrid (record {
+      cols = l.cols;
+      rows = l.rows;
+      left2 = left;
+      bottom2 = bottom;
+      dx = l.dx;
+      dy = l.dy;
+      cells = cells;
+    })
 is_grid_of room l cells left bottom range fits whole e f = rw (e, f) (is_grid room l cells range fits whole)

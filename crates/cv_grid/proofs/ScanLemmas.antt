@@ -1,5 +1,6 @@
 -- The way through the bytes of a text: white space, and one token after the other.
-use Rattle.std.proofs.Common.{◌≡◌, ℕ, suc, ◌+◌, ◌<◌, ◌≤◌, Bool, true, false, if◌then◌else◌, List, [], ◌∷◌, length, take, drop, get_or, refl, sym, ap, ◌∙◌, subst, arith, length-drop}
+use Rattle.std.proofs.Common.{◌≡◌, ℕ, suc, ◌+◌, ◌<◌, Bool, true, false, if◌then◌else◌, List, ◌∷◌, length}
+use Rattle.std.proofs.Common.{take, drop, get_or, refl, sym, ap, ◌∙◌, subst, arith}
 use Rattle.std.proofs.Math.Seq.{drop-cons}
 use Rattle.std.proofs.lemmas.List.{drop-drop}
 use Rattle.std.specs.List.{prefix_len}
@@ -14,18 +15,22 @@ abbrev pub kind_by : Bool → ByteKind
 kind_by t = if t then White else Word
 
 -- the byte at an offset, and the others behind it
-pub byte_at : (text : List ℕ) (at : ℕ) → at < length text → drop at text ≡ get_or text at 0 ∷ drop (at + 1) text
+pub byte_at : (text : List ℕ) (at : ℕ) → at < length text
+    → drop at text ≡ get_or text at 0 ∷ drop (at + 1) text
 byte_at text at h =
     let one : suc at ≡ at + 1 = omega arith in
     drop-cons text at 0 h ∙ ap (λ n. get_or text at 0 ∷ drop n text) one
 
 -- white space at the front
-space_cut : (at b : ℕ) (bs : List ℕ) → is_space b ≡ true → cut byte_kind at (b ∷ bs) ≡ cut byte_kind (at + 1) bs
+space_cut : (at b : ℕ) (bs : List ℕ) → is_space b ≡ true
+    → cut byte_kind at (b ∷ bs) ≡ cut byte_kind (at + 1) bs
 space_cut at b bs e = cut_white byte_kind at b bs (ap kind_by e)
 
 -- a token at the front
 token_cut : (at b : ℕ) (bs : List ℕ) → is_space b ≡ false
-    → cut byte_kind at (b ∷ bs) ≡ (record { at = at; bytes = take (front_len (b ∷ bs)) (b ∷ bs) }) ∷ cut byte_kind (at + front_len (b ∷ bs)) (drop (front_len (b ∷ bs)) (b ∷ bs))
+    → cut byte_kind at (b ∷ bs)
+    ≡ (record { at = at; bytes = take (front_len (b ∷ bs)) (b ∷ bs) }) ∷ cut byte_kind
+    (at + front_len (b ∷ bs)) (drop (front_len (b ∷ bs)) (b ∷ bs))
 token_cut at b bs e =
     let kind : byte_kind b ≡ Word = ap kind_by e in
     let n = prefix_len (λ c. is_word (byte_kind c)) bs in
@@ -33,10 +38,12 @@ token_cut at b bs e =
     let place : at + 1 + n ≡ at + suc n = omega arith in
     cut_word byte_kind bs at b kind
     ∙ ap (λ p. (record { at = at; bytes = b ∷ take n bs }) ∷ cut byte_kind p (drop n bs)) place
-    ∙ ap (λ m. (record { at = at; bytes = take m (b ∷ bs) }) ∷ cut byte_kind (at + m) (drop m (b ∷ bs))) (sym one)
+    ∙ ap (λ m. (record { at = at; bytes = take m (b ∷ bs) }) ∷ cut byte_kind (at + m) (drop m (b ∷ bs)))
+    (sym one)
 
 -- a token has a byte, and white space none
-pub len_by : (b : ℕ) (bs : List ℕ) (t : Bool) → is_space b ≡ t → front_len (b ∷ bs) ≡ (if t then 0 else suc (front_len bs))
+pub len_by : (b : ℕ) (bs : List ℕ) (t : Bool) → is_space b ≡ t
+    → front_len (b ∷ bs) ≡ (if t then 0 else suc (front_len bs))
 len_by b bs true e = let kind : byte_kind b ≡ White = ap kind_by e in rw kind refl
 len_by b bs false e = let kind : byte_kind b ≡ Word = ap kind_by e in rw kind omega arith
 
@@ -53,32 +60,44 @@ some_by b bs true e h = absurd (omega (arith, len_by b bs true e))
 
 -- ---- at an offset of the text
 
-pub some_at : (text : List ℕ) (at : ℕ) → at < length text → is_space (get_or text at 0) ≡ false → 0 < front_len (drop at text)
+pub some_at : (text : List ℕ) (at : ℕ) → at < length text → is_space (get_or text at 0) ≡ false
+    → 0 < front_len (drop at text)
 some_at text at h e = rw (byte_at text at h) (some_len (get_or text at 0) (drop (at + 1) text) e)
 
-pub space_from_len : (text : List ℕ) (at : ℕ) → at < length text → front_len (drop at text) ≡ 0 → is_space (get_or text at 0) ≡ true
+pub space_from_len : (text : List ℕ) (at : ℕ) → at < length text → front_len (drop at text) ≡ 0
+    → is_space (get_or text at 0) ≡ true
 space_from_len text at h e =
-    none_by (get_or text at 0) (drop (at + 1) text) (is_space (get_or text at 0)) refl (ap front_len (sym (byte_at text at h)) ∙ e)
+    none_by (get_or text at 0) (drop (at + 1) text) (is_space (get_or text at 0)) refl
+    (ap front_len (sym (byte_at text at h)) ∙ e)
 
-pub token_from_len : (text : List ℕ) (at : ℕ) → at < length text → 0 < front_len (drop at text) → is_space (get_or text at 0) ≡ false
+pub token_from_len : (text : List ℕ) (at : ℕ) → at < length text → 0 < front_len (drop at text)
+    → is_space (get_or text at 0) ≡ false
 token_from_len text at h e =
-    some_by (get_or text at 0) (drop (at + 1) text) (is_space (get_or text at 0)) refl (subst (λ (bs : List ℕ). 0 < front_len bs) (byte_at text at h) e)
+    some_by (get_or text at 0) (drop (at + 1) text) (is_space (get_or text at 0)) refl
+    (subst (λ (bs : List ℕ). 0 < front_len bs) (byte_at text at h) e)
 
 -- the tokens from an offset on
 abbrev pub tokens_at : List ℕ → ℕ → List Token
 tokens_at text at = cut byte_kind at (drop at text)
 
-pub white_on : (text : List ℕ) (at : ℕ) → at < length text → is_space (get_or text at 0) ≡ true → tokens_at text at ≡ tokens_at text (at + 1)
-white_on text at h e = ap (cut byte_kind at) (byte_at text at h) ∙ space_cut at (get_or text at 0) (drop (at + 1) text) e
+pub white_on : (text : List ℕ) (at : ℕ) → at < length text → is_space (get_or text at 0) ≡ true
+    → tokens_at text at ≡ tokens_at text (at + 1)
+white_on text at h e = ap (cut byte_kind at) (byte_at text at h)
+    ∙ space_cut at (get_or text at 0) (drop (at + 1) text) e
 
 -- the token at an offset
 abbrev pub token_at : List ℕ → ℕ → ℕ → Token
 token_at text at n = record { at = at; bytes = take n (drop at text) }
 
 pub token_on : (text : List ℕ) (at : ℕ) → at < length text → is_space (get_or text at 0) ≡ false
-    → tokens_at text at ≡ token_at text at (front_len (drop at text)) ∷ tokens_at text (at + front_len (drop at text))
+    → tokens_at text at ≡ token_at text at (front_len (drop at text)) ∷ tokens_at text
+    (at + front_len (drop at text))
 token_on text at h e =
     let n = front_len (drop at text) in
-    let P : List ℕ → Type 0 = λ bs. cut byte_kind at bs ≡ (record { at = at; bytes = take (front_len bs) bs }) ∷ cut byte_kind (at + front_len bs) (drop (front_len bs) bs) in
+    let P : List ℕ → Type 0 =
+    λ bs. cut byte_kind at bs
+    ≡ (record { at = at; bytes = take (front_len bs) bs }) ∷ cut byte_kind (at + front_len bs)
+    (drop (front_len bs) bs) in
     subst P (sym (byte_at text at h)) (token_cut at (get_or text at 0) (drop (at + 1) text) e)
-    ∙ ap (λ bs. token_at text at n ∷ cut byte_kind (at + n) bs) (drop-drop n at text ∙ ap (λ m. drop m text) (omega arith))
+    ∙ ap (λ bs. token_at text at n ∷ cut byte_kind (at + n) bs) (drop-drop n at text
+    ∙ ap (λ m. drop m text) (omega arith))

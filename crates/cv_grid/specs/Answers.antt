@@ -1,12 +1,14 @@
 -- The answer to a grid's text as a function, token by token.
-use Rattle.std.specs.Prelude.{ℕ, ◌+◌, ◌*◌, Bool, true, false, ◌==◌, if◌then◌else◌, ℤ, List, [], ◌∷◌, ◌++◌, length, Option, Some, None, option_and_then, option_map, Result, Ok, Err}
+use Rattle.std.specs.Prelude.{ℕ, ◌*◌, ◌==◌, if◌then◌else◌, ℤ, List, [], ◌∷◌, ◌++◌, length, Option, Some}
+use Rattle.std.specs.Prelude.{None, Result, Ok, Err}
 use Rattle.cv_model.specs.Grids.{CellGrid}
 use Rattle.cv_model.specs.declared.grid.Cell.{Cell}
 use Rattle.cv_reading.specs.Tokens.{Token}
 use Rattle.cv_number.specs.declared.fixed.Fixed.{Fixed}
 use Rattle.cv_number.specs.Reader.{decimal_of}
 use Rattle.cv_grid.specs.declared.error.GridError.{GridError}
-use Rattle.cv_grid.specs.declared.error.GridError.TheVariants.{MissingWord, BadWord, BadNumber, TooFew, TooMany, TooLarge}
+use Rattle.cv_grid.specs.declared.error.GridError.TheVariants.{MissingWord, BadWord, BadNumber, TooFew}
+use Rattle.cv_grid.specs.declared.error.GridError.TheVariants.{TooMany, TooLarge}
 use Rattle.cv_grid.specs.declared.error.GridWord.{GridWord}
 use Rattle.cv_grid.specs.declared.settings.Settings.{Settings}
 use Rattle.cv_grid.specs.declared.word.Word.{Word}
@@ -46,7 +48,8 @@ abbrev pub ended : ℕ → Settings → Option Word → Result Headed GridError
 ended end s None = Ok (s, [])
 ended end s (Some w) = Err (BadNumber end)
 
-abbrev pub going_on : (Reading → Result Headed GridError) → Settings → List Token → Result (Option Reading) GridError → Result Headed GridError
+abbrev pub going_on : (Reading → Result Headed GridError) → Settings → List Token
+    → Result (Option Reading) GridError → Result Headed GridError
 going_on answer s ts (Err e) = Err e
 going_on answer s ts (Ok None) = Ok (s, ts)
 going_on answer s ts (Ok (Some r)) = answer r
@@ -64,7 +67,8 @@ at_start = record { said = nothing_said; word = None }
 abbrev pub if_whole : ℕ → List Cell → Result (List Cell) GridError
 if_whole total cells = if length cells == total then Ok cells else Err (TooFew (length cells))
 
-abbrev pub with_decimal : (List Cell → Result (List Cell) GridError) → Option ℤ → List Cell → ℕ → Option Fixed → Result (List Cell) GridError
+abbrev pub with_decimal : (List Cell → Result (List Cell) GridError) → Option ℤ → List Cell → ℕ
+    → Option Fixed → Result (List Cell) GridError
 with_decimal answer void cells at None = Err (BadNumber at)
 with_decimal answer void cells at (Some v) = answer (cells ++ cell_of void v ∷ [])
 

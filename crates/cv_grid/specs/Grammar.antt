@@ -1,7 +1,8 @@
 -- The grammar of grids: a header of words and values, and then a decimal for each cell.
 --
 -- Source: the ASCII grid after ESRI's, in outline; each rule is this project's own.
-use Rattle.std.specs.Prelude.{◌≡◌, ℕ, ◌+◌, ◌*◌, ◌<◌, Bool, true, false, List, [], ◌∷◌, ◌++◌, map, length, Option, Some, None, option_and_then, Ok}
+use Rattle.std.specs.Prelude.{◌≡◌, ℕ, ◌*◌, Bool, true, false, List, [], ◌∷◌, ◌++◌, map, length, Option}
+use Rattle.std.specs.Prelude.{Some, option_and_then, Ok}
 use Rattle.cv_model.specs.Grids.{CellGrid}
 use Rattle.cv_model.specs.declared.grid.Cell.{Cell}
 use Rattle.cv_reading.specs.Tokens.{Token}
@@ -38,7 +39,8 @@ with_entry s e = option_and_then (λ w. with_value w e.value.bytes s) (free_word
 -- each entry is right behind what was said before it, and all say this in the end
 abbrev pub Says : Settings → List Entry → Settings → Type 0
 Says s [] u = s ≡ u
-Says s (e ∷ es) u = (is_header_token e.name.bytes ≡ true) × (t : Settings) × (with_entry s e ≡ Some t) × Says t es u
+Says s (e ∷ es) u = (is_header_token e.name.bytes ≡ true) × (t : Settings) × (with_entry s e ≡ Some t)
+    × Says t es u
 
 -- the text begins with right entries that say `said`, and `rest` is behind them
 pub record Begins (text : List ℕ) (said : Settings) (rest : List Token) : Type 0 where
@@ -51,8 +53,10 @@ pub record IsHeader (text : List ℕ) (said : Settings) (rest : List Token) : Ty
   pub begins : Begins text said rest
   pub ends : goes_on rest ≡ false
 
--- the header is whole, says where the cells lie, and they are neither too many nor too far away; `values` is behind it
-pub record IsLaid (room : ℕ) (text : List ℕ) (said : Settings) (layout : Layout) (values : List Token) : Type 0 where
+-- the header is whole, says where the cells lie, and they are neither too many nor too far away; `values`
+-- is behind it
+pub record IsLaid (room : ℕ) (text : List ℕ) (said : Settings) (layout : Layout)
+    (values : List Token) : Type 0 where
   pub header : IsHeader text said values
   pub layout_is : layout_of said ≡ Ok layout
   pub fits : is_large room layout ≡ false
@@ -69,7 +73,15 @@ cells_of said decimals = map (cell_of (void_number said.nodata)) decimals
 
 -- a layout with its cells
 abbrev pub grid_with : Layout → List Cell → CellGrid
-grid_with l cells = record { cols = l.cols; rows = l.rows; left2 = l.left2; bottom2 = l.bottom2; dx = l.dx; dy = l.dy; cells = cells }
+grid_with l cells = record {
+  cols = l.cols;
+  rows = l.rows;
+  left2 = l.left2;
+  bottom2 = l.bottom2;
+  dx = l.dx;
+  dy = l.dy;
+  cells = cells;
+}
 
 -- ---- a grid
 

@@ -1,6 +1,6 @@
 -- Where the cells of a header lie.
-use Rattle.std.specs.Prelude.{ℕ, ◌+◌, ◌*◌, nat_lt, Bool, ◌||◌, ℤ, pos, negsuc, ◌+ℤ◌, ◌-ℤ◌, ◌*ℤ◌, int_lt, Option, Some, None, Result, Ok, Err}
-use Rattle.cv_number.specs.declared.fixed.Fixed.{Fixed}
+use Rattle.std.specs.Prelude.{ℕ, ◌*◌, nat_lt, Bool, ◌||◌, ℤ, pos, negsuc, ◌+ℤ◌, ◌-ℤ◌, ◌*ℤ◌, int_lt, Option}
+use Rattle.std.specs.Prelude.{Some, None, Result, Ok, Err}
 use Rattle.cv_grid.specs.declared.error.GridWord.{GridWord}
 use Rattle.cv_grid.specs.declared.error.GridWord.TheVariants.{Ncols, Nrows, Xll, Yll, Cellsize, Dx, Dy}
 use Rattle.cv_grid.specs.declared.settings.Anchor.{Anchor}
@@ -18,7 +18,8 @@ abbrev pub far_edge : ℤ → ℕ → ℕ → ℤ
 far_edge edge cells side = edge +ℤ pos (2 * (cells * side))
 
 -- where the cells lie, or the first word that is missing; where one side alone is said, the other is missing
-abbrev pub laid : Option ℕ → Option ℕ → Option Anchor → Option Anchor → Option ℕ → Option ℕ → Result Layout GridWord
+abbrev pub laid : Option ℕ → Option ℕ → Option Anchor → Option Anchor → Option ℕ → Option ℕ
+    → Result Layout GridWord
 laid None rows left bottom dx dy = Err Ncols
 laid (Some cols) None left bottom dx dy = Err Nrows
 laid (Some cols) (Some rows) None bottom dx dy = Err Xll

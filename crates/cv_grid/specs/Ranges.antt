@@ -1,5 +1,5 @@
 -- The ranges of what a header said.
-use Rattle.std.specs.Prelude.{ℕ, ◌≤◌, ℤ, pos, negsuc, ◌≤ℤ◌, IfSome, Option}
+use Rattle.std.specs.Prelude.{ℕ, ◌≤◌, pos, negsuc, ◌≤ℤ◌, IfSome}
 use Rattle.cv_model.specs.Positions.{IsCoordinate}
 use Rattle.cv_grid.specs.declared.settings.Anchor.{Anchor}
 use Rattle.cv_grid.specs.declared.settings.Anchor.TheVariants.{Corner, Centre}

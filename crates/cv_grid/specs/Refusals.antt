@@ -1,10 +1,11 @@
 -- Why a text is no grid: its tokens are judged from left to right, and the first that is wrong decides.
-use Rattle.std.specs.Prelude.{◌≡◌, ℕ, ◌+◌, ◌*◌, ◌<◌, true, Ok, List, [], ◌∷◌, ◌++◌, length, Option, Some, None, Err}
+use Rattle.std.specs.Prelude.{◌≡◌, ℕ, ◌*◌, ◌<◌, true, Ok, List, [], ◌∷◌, ◌++◌, length, Some, None, Err}
 use Rattle.cv_reading.specs.Tokens.{Token}
 use Rattle.cv_number.specs.declared.fixed.Fixed.{Fixed}
 use Rattle.cv_number.specs.Reader.{decimal_of}
 use Rattle.cv_grid.specs.declared.error.GridError.{GridError}
-use Rattle.cv_grid.specs.declared.error.GridError.TheVariants.{MissingWord, BadWord, BadNumber, TooFew, TooMany, TooLarge, NoMemory}
+use Rattle.cv_grid.specs.declared.error.GridError.TheVariants.{MissingWord, BadWord, BadNumber, TooFew}
+use Rattle.cv_grid.specs.declared.error.GridError.TheVariants.{TooMany, TooLarge, NoMemory}
 use Rattle.cv_grid.specs.declared.error.GridWord.{GridWord}
 use Rattle.cv_grid.specs.declared.settings.Settings.{Settings}
 use Rattle.cv_grid.specs.declared.word.Word.{Word}
@@ -13,7 +14,6 @@ use Rattle.cv_grid.specs.Tokens.{line_at}
 use Rattle.cv_grid.specs.Words.{is_header_token, free_word, with_value}
 use Rattle.cv_grid.specs.Layouts.{layout_of, is_large}
 use Rattle.cv_grid.specs.Grammar.{Begins, IsHeader, IsLaid, Spell}
-use Rattle.cv_model.specs.Grids.{CellGrid}
 
 -- ---- in the header
 

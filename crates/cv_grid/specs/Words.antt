@@ -1,5 +1,7 @@
 -- The words of a header, and what their values say.
-use Rattle.std.specs.Prelude.{ℕ, ◌+◌, ◌-◌, ◌*◌, ◌<◌, nat_lt, ◌==◌, Bool, true, false, not, ◌&&◌, if◌then◌else◌, ℤ, pos, int_lt, unsigned_abs, List, [], ◌∷◌, length, fold, Option, Some, None, is_none, option_map, option_and_then, codes}
+use Rattle.std.specs.Prelude.{ℕ, ◌+◌, ◌-◌, ◌*◌, nat_lt, ◌==◌, Bool, false, not, ◌&&◌, if◌then◌else◌, ℤ, pos}
+use Rattle.std.specs.Prelude.{int_lt, unsigned_abs, List, [], ◌∷◌, length, fold, Option, Some, None}
+use Rattle.std.specs.Prelude.{is_none, option_map, option_and_then, codes}
 use Rattle.std.specs.Char.{is_ascii_digit, is_ascii_alphabetic}
 use Rattle.std.specs.List.{list_all}
 use Rattle.std.specs.Str.{str_eq_ignore_ascii_case}
@@ -7,8 +9,8 @@ use Rattle.cv_number.specs.declared.fixed.Fixed.{Fixed}
 use Rattle.cv_number.specs.declared.fixed.Fixed.TheVariants.{Value}
 use Rattle.cv_number.specs.Reader.{decimal_of}
 use Rattle.cv_grid.specs.declared.word.Word.{Word}
-use Rattle.cv_grid.specs.declared.word.Word.TheVariants.{Ncols, Nrows, XllCorner, XllCenter, YllCorner, YllCenter, Cellsize, Dx, Dy, NodataValue}
-use Rattle.cv_grid.specs.declared.settings.Anchor.{Anchor}
+use Rattle.cv_grid.specs.declared.word.Word.TheVariants.{Ncols, Nrows, XllCorner, XllCenter, YllCorner}
+use Rattle.cv_grid.specs.declared.word.Word.TheVariants.{YllCenter, Cellsize, Dx, Dy, NodataValue}
 use Rattle.cv_grid.specs.declared.settings.Anchor.TheVariants.{Corner, Centre}
 use Rattle.cv_grid.specs.declared.settings.Settings.{Settings}
 
@@ -76,7 +78,16 @@ size_of bytes = option_and_then size_in (coordinate_of bytes)
 -- ---- what a header has said so far
 
 abbrev pub nothing_said : Settings
-nothing_said = record { cols = None; rows = None; left = None; bottom = None; dx = None; dy = None; nodata = None }
+nothing_said = record {
+  cols = None;
+  rows = None;
+  left = None;
+  bottom = None;
+  dx = None;
+  dy = None;
+  nodata =
+      None;
+}
 
 -- nothing was said of what a word speaks of; `cellsize` speaks of both sides of a cell
 abbrev pub is_free : Word → Settings → Bool

@@ -69,7 +69,8 @@ pub fn read_cells(
     void: Option<i64>,
 ) -> Result<CellList, GridError>
     requires start { start ≤ length text.now }
-    ensures ok { IfOk result (λ cells. cells_from total void (cut byte_kind start (drop start text.now)) [] ≡ Ok cells) }
+    ensures ok { IfOk result (λ cells.
+        cells_from total void (cut byte_kind start (drop start text.now)) [] ≡ Ok cells) }
     ensures whole { IfOk result (λ cells. length cells ≡ total) }
     ensures err { IfErr result (λ e. (e ≢ GridError.NoMemory)
         → cells_from total void (cut byte_kind start (drop start text.now)) [] ≡ Err e) }

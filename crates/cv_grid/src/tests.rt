@@ -39,8 +39,8 @@ fn headers_lay_out_the_cells(rt: HostRuntime) -> Result<(), Fail> {
             "2x2 0 0 1000000 1000000: 1000000 2000000 3000000 4000000",
         ),
         (
-            b"ncols 2\nnrows 2\nxllcorner 0\nyllcorner 0\ncellsize 400\nNODATA_value -9999\n100 200\n-9999 300\n",
-            "2x2 0 0 400000000 400000000: 100000000 200000000 - 300000000",
+            b"ncols 2\nnrows 2\nxllcorner 0\nyllcorner 0\ncellsize 4\nNODATA_value -9999\n100 200\n-9999 300",
+            "2x2 0 0 4000000 4000000: 100000000 200000000 - 300000000",
         ),
         (
             b"\tNROWS 1\r\nCellSize\n2 YLLCENTER 1\r\nncols 1\nXllCorner 3\n\n 7 ",
@@ -109,7 +109,8 @@ fn values_are_the_cells_from_the_north_west(rt: HostRuntime) -> Result<(), Fail>
             "2x1 0 0 1000000 1000000: - -9999000000",
         ),
         (
-            b"ncols 1 nrows 1 xllcorner 0 yllcorner 0 cellsize 1 nodata_value -3.40282346638529e+38 -3.40282346638529e+38",
+            b"ncols 1 nrows 1 xllcorner 0 yllcorner 0 cellsize 1 \
+              nodata_value -3.40282346638529e+38 -3.40282346638529e+38",
             "1x1 0 0 1000000 1000000: -",
         ),
         (

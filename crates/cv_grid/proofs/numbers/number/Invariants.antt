@@ -5,4 +5,7 @@ use Rattle.cv_grid.proofs.numbers.number.Given as goal
 
 abbrev pub invariant-loop-digit : goal.invariant-loop-digit
 invariant-loop-digit l =
-    record { value : l.number ≡ number_of (take l.digit-index l.digits); small : l.number + 23 ≤ 23 * 10 ^ l.digit-index }
+    record {
+      value : l.number ≡ number_of (take l.digit-index l.digits);
+      small : l.number + 23 ≤ 23 * 10 ^ l.digit-index;
+    }

@@ -1,5 +1,5 @@
 -- Nine digits fit.
-use Rattle.std.proofs.Common.{◌≤◌, ◌^◌, arith}
+use Rattle.std.proofs.Common.{arith}
 use Rattle.std.proofs.Math.Nat.{pow-le-pow_right}
 use Rattle.cv_grid.proofs.value.front_digits.Goals as goal
 

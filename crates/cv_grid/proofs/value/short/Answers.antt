@@ -9,5 +9,6 @@ returns c =
     let d = c.front_digits-digits.result in
     let small = c.front_digits-digits.ensures.small in
     let whole : to_z w64 (of_z w64 c.millionths.result) ≡ pos (1000000 * d.number) = omega (arith, ints) in
-    digits_front c.args.text.now d.number d.len (to_z w64 (of_z w64 c.millionths.result)) c.front_digits-digits.ensures c.if-digits-eq0.false
+    digits_front c.args.text.now d.number d.len (to_z w64 (of_z w64 c.millionths.result))
+    c.front_digits-digits.ensures c.if-digits-eq0.false
     (c.ends_before.ensures c.if-not-ends_before.false) whole
