@@ -28,12 +28,14 @@ use Rattle.cv_grid.proofs.GrammarLemmas.{Part, IsHeaded, headed, cells_taken, Ar
 
 -- ---- what the grammar says is answered
 
+-- right entries are taken
 begins_taken : (text : List ℕ) (said : Settings) (rest : List Token) → Begins text said rest
     → header_from text (tokens_of text) at_start ≡ header_from text rest (between said)
 begins_taken text said rest b =
     ap (λ ts. header_from text ts at_start) b.tokens
     ∙ entries_taken text b.entries nothing_said said rest b.says
 
+-- a whole header is read
 header_taken : (text : List ℕ) (said : Settings) (rest : List Token) → IsHeader text said rest
     → header_from text (tokens_of text) at_start ≡ Ok (said, rest)
 header_taken text said rest h = begins_taken text said rest h.begins ∙ header_ends text said rest h.ends
@@ -66,10 +68,12 @@ behind_cells room text said l front rest ds h spelt room_left =
     ∙ ap (grid_behind l) (cells_taken (l.cols * l.rows) (void_number said.nodata) front rest ds [] spelt
     (omega arith))
 
+-- as many cells as decimals
 length_cells : (said : Settings) (ds : List Fixed) → length (cells_of said ds) ≡ length ds
 length_cells said [] = refl
 length_cells said (d ∷ ds) = let more = length_cells said ds in omega arith
 
+-- a text that spells a grid is read as that grid
 spelt_answered : (room : ℕ) (text : List ℕ) (g : CellGrid) → Spells room text g → grid_of room text ≡ Ok g
 spelt_answered room text g s =
     let total = s.layout.cols * s.layout.rows in
@@ -81,6 +85,7 @@ spelt_answered room text g s =
     else Err (TooFew (length (cells_of s.said s.decimals))))) full
     ∙ ap Ok (sym s.grid_is)
 
+-- a value that doesn't fit is refused at its place
 unfit_answered : (text : List ℕ) (s : Settings) (w : Word) (ts : List Token) (at : ℕ)
     → UnfitAt s w (length text) ts at → header_from text ts (behind s w) ≡ Err (BadNumber at)
 unfit_answered text s w [] at h = ap (λ n. Err (BadNumber n)) (sym h)
@@ -111,6 +116,7 @@ at_cell room text said l front rest token ds b h spelt room_left e =
     behind_cells room text said l front (token ∷ rest) ds h spelt room_left
     ∙ ap answer (ap (λ n. n == l.cols * l.rows) (length_cells said ds) ∙ e)
 
+-- each refusal is answered
 refused_answered : (room : ℕ) (text : List ℕ) (e : GridError) → IsRefused room text e
     → grid_of room text ≡ Err e
 refused_answered room text (MissingWord w) h =
@@ -156,6 +162,7 @@ refused_answered room text NoMemory h = absurd h
 
 -- ---- what is answered, the grammar says
 
+-- an answer is what the grammar says of the text
 abbrev IsRight : ℕ → List ℕ → Result CellGrid GridError → Type 0
 IsRight room text (Ok g) = Spells room text g
 IsRight room text (Err e) = IsRefused room text e
@@ -164,6 +171,7 @@ begins_of : (text : List ℕ) (said : Settings) (rest : List Token)
     → Part (tokens_of text) nothing_said said rest → Begins text said rest
 begins_of text said rest p = record { entries = p.entries; tokens = p.tokens; says = p.says }
 
+-- the answer behind a right header
 cells_right : (room : ℕ) (text : List ℕ) (said : Settings) (l : Layout) (values : List Token)
     → IsLaid room text said l values → (r : Result (List Cell) GridError)
     → AreCells (l.cols * l.rows) (void_number said.nodata) values [] r → IsRight room text (grid_behind l r)
@@ -216,6 +224,7 @@ cells_right room text said l values laid (Err (MissingWord w)) h = absurd h
 cells_right room text said l values laid (Err TooLarge) h = absurd h
 cells_right room text said l values laid (Err NoMemory) h = absurd h
 
+-- the answer behind a layout, too large or not
 size_right : (room : ℕ) (text : List ℕ) (said : Settings) (l : Layout) (rest : List Token) (b : Bool)
     → IsHeader text said rest → layout_of said ≡ Ok l → is_large room l ≡ b
     → IsRight room text (if b then Err TooLarge
@@ -227,6 +236,7 @@ size_right room text said l rest false header e fits =
     (cells_from (l.cols * l.rows) (void_number said.nodata) rest [])
     (are_cells (l.cols * l.rows) (void_number said.nodata) rest [] (omega arith))
 
+-- the answer behind a whole header
 layout_right : (room : ℕ) (text : List ℕ) (said : Settings) (rest : List Token)
     (lo : Result Layout GridWord) → IsHeader text said rest → layout_of said ≡ lo
     → IsRight room text (grid_laid room said rest lo)
@@ -235,6 +245,7 @@ layout_right room text said rest (Err w) header e =
 layout_right room text said rest (Ok l) header e =
     size_right room text said l rest (is_large room l) header e refl
 
+-- the answer to the whole text
 header_right : (room : ℕ) (text : List ℕ) (r : Result Headed GridError)
     → IsHeaded text (tokens_of text) nothing_said r → IsRight room text (grid_headed room r)
 header_right room text (Ok h) (part, ends) =
@@ -265,6 +276,7 @@ header_right room text (Err TooMany) h = absurd h
 header_right room text (Err TooLarge) h = absurd h
 header_right room text (Err NoMemory) h = absurd h
 
+-- the answer is what the grammar says
 right : (room : ℕ) (text : List ℕ) → IsRight room text (grid_of room text)
 unfolding grid_of
 right room text = header_right room text (header_from text (tokens_of text) at_start)
@@ -272,9 +284,11 @@ right room text = header_right room text (header_from text (tokens_of text) at_s
 
 -- ---- the theorem, both ways
 
+-- a text is read as a grid exactly where it spells it
 pub grid_spelt : (room : ℕ) (text : List ℕ) (g : CellGrid) → (grid_of room text ≡ Ok g) ↔ Spells room text g
 grid_spelt room text g = (λ e. subst (IsRight room text) e (right room text), spelt_answered room text g)
 
+-- and refused exactly where the rule of the refusal says
 pub grid_refused : (room : ℕ) (text : List ℕ) (e : GridError)
     → (grid_of room text ≡ Err e) ↔ IsRefused room text e
 grid_refused room text e = (λ q. subst (IsRight room text) q (right room text), refused_answered room text e)
@@ -287,16 +301,19 @@ spelt_if room text (Err e) same = search rules
 
 -- ---- the exits of the code
 
+-- a refusal in the header
 pub at_header : (room : ℕ) (text : List ℕ) (e : GridError)
     → header_from text (tokens_of text) at_start ≡ Err e → Err e ≡ grid_of room text
 at_header room text e h = sym (refused_header room text e h)
 
+-- a whole header
 pub at_layout : (room : ℕ) (text : List ℕ) (s : Settings) (ts : List Token) (lo : Result Layout GridWord)
     → header_from text (tokens_of text) at_start ≡ Ok (s, ts) → lo ≡ layout_of s
     → grid_of room text ≡ grid_laid room s ts lo
 unfolding grid_of
 at_layout room text s ts lo h e = ap (grid_headed room) h ∙ ap (grid_laid room s ts) (sym e)
 
+-- a header that lays out the cells
 pub at_size : (room : ℕ) (text : List ℕ) (s : Settings) (ts : List Token) (l : Layout) (b : Bool)
     → header_from text (tokens_of text) at_start ≡ Ok (s, ts) → Ok l ≡ layout_of s
     → b ≡ is_large room l → grid_of room text
@@ -306,6 +323,7 @@ at_size room text s ts l b h e large =
     ∙ ap (λ (t : Bool). if t then Err TooLarge
     else grid_behind l (cells_from (l.cols * l.rows) (void_number s.nodata) ts [])) (sym large)
 
+-- a right header, and what was read of its cells
 pub at_cells : (room : ℕ) (text : List ℕ) (s : Settings) (ts : List Token) (l : Layout) (total : ℕ)
     (void : Option ℤ) (r : Result (List Cell) GridError)
     → header_from text (tokens_of text) at_start ≡ Ok (s, ts) → Ok l ≡ layout_of s → false ≡ is_large room l

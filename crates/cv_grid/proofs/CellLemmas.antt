@@ -23,6 +23,7 @@ pub record CellsAlong (text : List ℕ) (start total : ℕ) (void : Option ℤ) 
   pub few : length cells ≤ total
   pub same : cells_from total void (tokens_at text start) [] ≡ cells_from total void (tokens_at text at) cells
 
+-- white space at the offset
 pub cells_white : (text : List ℕ) (start total : ℕ) (void : Option ℤ) (at : ℕ) (cells : List Cell)
     → CellsAlong text start total void at cells → at < length text
     → true ≡ is_space (get_or text at 0) → CellsAlong text start total void (at + 1) cells
@@ -49,6 +50,7 @@ at_token text start total void at cells along h e t same =
     (decimal_of (take (front_len (drop at text)) (drop at text))))
     same
 
+-- a token where no cell is due
 pub cells_many : (text : List ℕ) (start total : ℕ) (void : Option ℤ) (at : ℕ) (cells : List Cell)
     → CellsAlong text start total void at cells → at < length text
     → false ≡ is_space (get_or text at 0) → length cells ≡ total
@@ -56,6 +58,7 @@ pub cells_many : (text : List ℕ) (start total : ℕ) (void : Option ℤ) (at :
 cells_many text start total void at cells along h e full =
     at_token text start total void at cells along h e true (eq-eqb (length cells) total full)
 
+-- a token that is no decimal
 pub cells_bad : (text : List ℕ) (start total : ℕ) (void : Option ℤ) (at : ℕ) (cells : List Cell)
     → CellsAlong text start total void at cells → at < length text
     → false ≡ is_space (get_or text at 0) → (length cells ≡ total → ⊥)
@@ -66,6 +69,7 @@ cells_bad text start total void at cells along h e room none =
     ∙ ap (with_decimal (cells_from total void (tokens_at text (at + front_len (drop at text)))) void cells
     at) none
 
+-- a token that is a cell
 pub cells_more : (text : List ℕ) (start total : ℕ) (void : Option ℤ) (at : ℕ) (cells : List Cell)
     (s : Spelt) → CellsAlong text start total void at cells → at < length text
     → false ≡ is_space (get_or text at 0) → (length cells ≡ total → ⊥) → IsFront (drop at text) s
@@ -90,12 +94,14 @@ at_end text start total void at cells along h t same =
     ∙ ap (λ bs. cells_from total void (cut byte_kind at bs) cells) (drop_all at text h)
     ∙ ap (λ (b : Bool). if b then Ok cells else Err (TooFew (length cells))) same
 
+-- the end behind the last cell
 pub cells_whole : (text : List ℕ) (start total : ℕ) (void : Option ℤ) (at : ℕ) (cells : List Cell)
     → CellsAlong text start total void at cells → length text ≤ at
     → length cells ≡ total → cells_from total void (tokens_at text start) [] ≡ Ok cells
 cells_whole text start total void at cells along h full =
     at_end text start total void at cells along h true (eq-eqb (length cells) total full)
 
+-- the end before the last cell
 pub cells_few : (text : List ℕ) (start total : ℕ) (void : Option ℤ) (at : ℕ) (cells : List Cell)
     → CellsAlong text start total void at cells → length text ≤ at
     → (length cells ≡ total → ⊥)

@@ -19,6 +19,7 @@ use Rattle.cv_grid.specs.Scanning.{front_len, IsFront, AreDigits}
 use Rattle.cv_grid.proofs.ScanLemmas.{len_by}
 use Rattle.cv_grid.specs.Words.{number_of}
 
+-- of two tests both hold
 both : (a b : Bool) → (a && b) ≡ true → (a ≡ true) × (b ≡ true)
 both true b e = (refl, e)
 both false b e = absurd (cc)
@@ -27,9 +28,11 @@ both false b e = absurd (cc)
 abbrev pub digits_of : List ℕ → List ℕ
 digits_of bytes = map (λ b. b - 48) bytes
 
+-- a digit's mark
 digit_mark : (b : ℕ) → is_ascii_digit b ≡ true → mark_of b ≡ Digit (b - 48)
 digit_mark b e = let digit : is_digit b ≡ true = e in rw digit refl
 
+-- the marks of digits
 marks_are : (bytes : List ℕ) → list_all is_ascii_digit bytes ≡ true
     → map mark_of bytes ≡ digit_marks (digits_of bytes)
 marks_are [] e = refl
@@ -38,6 +41,7 @@ marks_are (b ∷ bs) e =
     ap (λ m. m ∷ map mark_of bs) (digit_mark b parts.0)
     ∙ ap (λ ms. Digit (b - 48) ∷ ms) (marks_are bs parts.1)
 
+-- the number of digits, as the grammar of decimals has it
 number_is : (bytes : List ℕ) (n : ℕ)
     → fold (λ m b. 10 * m + (b - 48)) n bytes ≡ number_from n (digits_of bytes)
 number_is [] n = refl
@@ -68,9 +72,11 @@ digits_spell (b ∷ bs) n some e is small =
 
 -- ---- the token that they are
 
+-- a digit is at least 0
 at_least : (b : ℕ) → is_ascii_digit b ≡ true → 48 ≤ b
 at_least b e = grind (arith, nat_tests)
 
+-- a digit is no white space
 not_space : (b : ℕ) → 48 ≤ b → is_space b ≡ false
 not_space b h =
     let space = ne_eqb b 32 (λ e. omega arith) in
@@ -90,6 +96,7 @@ front_len_is (b ∷ bs) (suc n) within e ends =
     len_by b bs false (not_space b (at_least b parts.0))
     ∙ ap suc (front_len_is bs n (omega arith) parts.1 (λ h. ends (omega arith)))
 
+-- so they are the decimal at the front
 pub digits_front : (bytes : List ℕ) (number len : ℕ) (z : ℤ) → AreDigits bytes number len → (len ≡ 0 → ⊥)
     → (len < length bytes → is_space (get_or bytes len 0) ≡ true) → z ≡ pos (1000000 * number)
     → IsFront bytes (record { value = Value z; len = len })

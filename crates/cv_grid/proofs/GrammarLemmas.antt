@@ -30,6 +30,7 @@ between s = record { said = s; word = None }
 abbrev pub behind : Settings → Word → Reading
 behind s w = record { said = s; word = Some w }
 
+-- what a token in the place of a word gives
 name_taken : (text : List ℕ) (s : Settings) (t : Token) (b : Bool) → is_header_token t.bytes ≡ b
     → taken text (between s) t
     ≡ (if b then behind_word (line_at text t.at) s (free_word s t.bytes) else Ok None)
@@ -37,6 +38,7 @@ unfolding taken
 name_taken text s t b e =
     ap (λ (x : Bool). if x then behind_word (line_at text t.at) s (free_word s t.bytes) else Ok None) e
 
+-- what a token in the place of a value gives
 value_taken : (text : List ℕ) (s : Settings) (w : Word) (t : Token)
     → taken text (behind s w) t ≡ behind_value t.at (with_value w t.bytes s)
 unfolding taken
@@ -58,6 +60,7 @@ pub at_value : (text : List ℕ) (s : Settings) (w : Word) (t : Token) (ts : Lis
 at_value text s w t ts o e =
     ap (going_on (header_from text ts) s (t ∷ ts)) (value_taken text s w t ∙ ap (behind_value t.at) e)
 
+-- a right entry is taken
 entry_step : (text : List ℕ) (s t : Settings) (e : Entry) (ts : List Token) (o : Option Word)
     → is_header_token e.name.bytes ≡ true → free_word s e.name.bytes ≡ o
     → option_and_then (λ w. with_value w e.value.bytes s) o ≡ Some t
@@ -119,6 +122,7 @@ IsHeaded text ts s (Err TooMany) = ⊥
 IsHeaded text ts s (Err TooLarge) = ⊥
 IsHeaded text ts s (Err NoMemory) = ⊥
 
+-- no entry in front
 nothing_yet : (ts : List Token) (s : Settings) → Part ts s s ts
 nothing_yet ts s = record { entries = []; tokens = refl; says = refl }
 
@@ -132,6 +136,7 @@ with_first n v ts s t said rest is right part = record {
   says = (is, t, right, part.says);
 }
 
+-- the same of what an answer says
 answer_with_first : (text : List ℕ) (n v : Token) (ts : List Token) (s t : Settings)
     (r : Result Headed GridError) → is_header_token n.bytes ≡ true
     → with_entry s (record { name = n; value = v }) ≡ Some t → IsHeaded text ts t r
@@ -168,6 +173,7 @@ abbrev HeadedBehind : List ℕ → List Token → Type 0
 HeadedBehind text ts = (s : Settings) (n : Token) (w : Word) → is_header_token n.bytes ≡ true
     → free_word s n.bytes ≡ Some w → IsHeaded text (n ∷ ts) s (header_from text ts (behind s w))
 
+-- a token in the place of a word
 name_case : (text : List ℕ) (t : Token) (ts : List Token) (s : Settings) (b : Bool) (o : Option Word)
     → is_header_token t.bytes ≡ b → free_word s t.bytes ≡ o → HeadedBehind text ts
     → IsHeaded text (t ∷ ts) s
@@ -185,6 +191,7 @@ name_case text t ts s true None e f further =
     }
 name_case text t ts s true (Some w) e f further = further s t w e f
 
+-- a token in the place of a value
 value_case : (text : List ℕ) (n t : Token) (ts : List Token) (s : Settings) (w : Word) (o : Option Settings)
     → is_header_token n.bytes ≡ true → free_word s n.bytes ≡ Some w
     → with_value w t.bytes s ≡ o → ((u : Settings) → IsHeaded text ts u (header_from text ts (between u)))
@@ -205,6 +212,7 @@ value_case text n t ts s w (Some u) is known e further =
     ap (option_and_then (λ (x : Word). with_value x t.bytes s)) known ∙ e in
     answer_with_first text n t ts s u (header_from text ts (between u)) is right (further u)
 
+-- what the answer to a header says, between two entries and behind a word
 pub headed : (text : List ℕ) (ts : List Token)
     → ((s : Settings) → IsHeaded text ts s (header_from text ts (between s))) × HeadedBehind text ts
 headed text [] = (
@@ -232,6 +240,7 @@ headed text (t ∷ ts) =
 
 -- ---- the cells: what the grammar says, the reader answers
 
+-- a decimal is taken where a cell is due
 cell_step : (total : ℕ) (void : Option ℤ) (t : Token) (ts : List Token) (cells : List Cell) (v : Fixed)
     → length cells < total → decimal_of t.bytes ≡ Some v
     → cells_from total void (t ∷ ts) cells ≡ cells_from total void ts (cells ++ cell_of void v ∷ [])
@@ -301,6 +310,7 @@ part_with_first t ts v e p = record {
   spelt = spell_with_first t p.front v p.decimals e p.spelt;
 }
 
+-- a decimal more in front of what an answer says
 cells_with_first : (total : ℕ) (void : Option ℤ) (t : Token) (ts : List Token) (cells : List Cell)
     (v : Fixed) (r : Result (List Cell) GridError) → decimal_of t.bytes ≡ Some v
     → AreCells total void ts (cells ++ cell_of void v ∷ []) r → AreCells total void (t ∷ ts) cells r
@@ -325,9 +335,11 @@ cells_with_first total void t ts cells v (Err (MissingWord w)) e h = h
 cells_with_first total void t ts cells v (Err TooLarge) e h = h
 cells_with_first total void t ts cells v (Err NoMemory) e h = h
 
+-- no decimal in front
 abbrev no_front : (t : Token) (ts : List Token) → CellPart (t ∷ ts)
 no_front t ts = record { front = []; decimals = []; token = t; rest = ts; tokens = refl; spelt = refl }
 
+-- the end of the text
 end_case : (total : ℕ) (void : Option ℤ) (cells : List Cell) (b : Bool) → (length cells == total) ≡ b
     → length cells ≤ total
     → AreCells total void [] cells (if b then Ok cells else Err (TooFew (length cells)))
@@ -341,6 +353,7 @@ end_case total void cells true e room = (
 end_case total void cells false e room =
     ([], refl, omega arith, let apart = eqb-false (length cells) total e in omega arith)
 
+-- a token where a cell is due
 decimal_case : (total : ℕ) (void : Option ℤ) (t : Token) (ts : List Token) (cells : List Cell)
     (o : Option Fixed) → decimal_of t.bytes ≡ o → length cells < total
     → ((v : Fixed) → AreCells total void ts (cells ++ cell_of void v ∷ [])
@@ -351,6 +364,7 @@ decimal_case total void t ts cells (Some v) e room further =
     cells_with_first total void t ts cells v (cells_from total void ts (cells ++ cell_of void v ∷ [])) e
     (further v)
 
+-- a token, where a cell is due or not
 token_case : (total : ℕ) (void : Option ℤ) (t : Token) (ts : List Token) (cells : List Cell) (b : Bool)
     → (length cells == total) ≡ b → length cells ≤ total
     → ((v : Fixed) → length cells < total
@@ -365,6 +379,7 @@ token_case total void t ts cells false e room further =
     let less : length cells < total = omega arith in
     decimal_case total void t ts cells (decimal_of t.bytes) refl less (λ v. further v less)
 
+-- what the answer to the tokens of the cells says
 pub are_cells : (total : ℕ) (void : Option ℤ) (ts : List Token) (cells : List Cell) → length cells ≤ total
     → AreCells total void ts cells (cells_from total void ts cells)
 are_cells total void [] cells room = end_case total void cells (length cells == total) refl room

@@ -48,6 +48,7 @@ token_first text rest front at n h =
     ∙ ap (λ k. token_at text at k ∷ tokens_at text (at + k)) (sym len)
     ∙ ap (λ (b : List ℕ). (record { at = at; bytes = b }) ∷ tokens_at text (at + n)) (sym bytes)
 
+-- a token ends within the text
 pub behind_token : (text rest front : List ℕ) (at n : ℕ) → IsToken text rest front at n → at + n ≤ length text
 behind_token text rest front at n h =
     let fits : n ≤ length (drop at text) = subst (λ z. n ≤ length z) h.rest_is h.fits in
@@ -67,6 +68,7 @@ at_token text rest front at n r o along h e =
     ∙ ap (going_on (header_from text (tokens_at text (at + n))) r.said
     ((record { at = at; bytes = front }) ∷ tokens_at text (at + n))) (sym e)
 
+-- a token that is taken
 pub header_taken : (text rest front : List ℕ) (at n : ℕ) (r u : Reading) → HeaderAlong text at r
     → IsToken text rest front at n
     → Ok (Some u) ≡ taken text r (record { at = at; bytes = front }) → IsInRange u.said
@@ -77,12 +79,14 @@ header_taken text rest front at n r u along h e range = record {
   range = range;
 }
 
+-- a token that is refused
 pub header_refused : (text rest front : List ℕ) (at n : ℕ) (r : Reading) (f : GridError)
     → HeaderAlong text at r → IsToken text rest front at n
     → Err f ≡ taken text r (record { at = at; bytes = front })
     → header_from text (tokens_of text) at_start ≡ Err f
 header_refused text rest front at n r f along h e = at_token text rest front at n r (Err f) along h e
 
+-- a token that is the header's no more
 pub header_done : (text rest front : List ℕ) (at n : ℕ) (r : Reading) → HeaderAlong text at r
     → IsToken text rest front at n
     → Ok None ≡ taken text r (record { at = at; bytes = front })
@@ -101,5 +105,6 @@ header_at_end text at r along h =
     ∙ ap (λ bs. header_from text (cut byte_kind at bs) r) (drop_all at text h)
     ∙ ap (λ k. ended k r.said r.word) place
 
+-- behind the end of the text are no tokens
 pub no_tokens : (text : List ℕ) (at : ℕ) → length text ≤ at → [] ≡ tokens_at text at
 no_tokens text at h = sym (ap (cut byte_kind at) (drop_all at text h))

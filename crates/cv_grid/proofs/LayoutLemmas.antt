@@ -9,10 +9,12 @@ use Rattle.cv_grid.specs.Layouts.{far_edge, is_beyond, is_far, is_large}
 use Rattle.cv_grid.specs.Ranges.{IsLaidInRange}
 use Rattle.cv_grid.specs.Grammar.{grid_with}
 
+-- of two tests neither holds
 neither : (a b : Bool) → (a || b) ≡ false → (a ≡ false) × (b ≡ false)
 neither false b e = (refl, e)
 neither true b e = absurd (cc)
 
+-- an edge that isn't beyond is within the range
 edge_in : (z : ℤ) → is_beyond z ≡ false → IsEdge z
 edge_in z e = grind (arith, ints)
 
@@ -45,6 +47,7 @@ is_grid room l cells range fits whole =
       top = edge_in (far_edge l.bottom2 l.rows l.dy) up.1;
     }
 
+-- the same of edges that are equal to these
 pub is_grid_of : (room : ℕ) (l : Layout) (cells : List Cell) (left bottom : ℤ) → IsLaidInRange l
     → is_large room l ≡ false → length cells ≡ l.cols * l.rows → left ≡ l.left2 → bottom ≡ l.bottom2
     → IsGrid (record {

@@ -47,29 +47,35 @@ pub len_by : (b : ℕ) (bs : List ℕ) (t : Bool) → is_space b ≡ t
 len_by b bs true e = let kind : byte_kind b ≡ White = ap kind_by e in rw kind refl
 len_by b bs false e = let kind : byte_kind b ≡ Word = ap kind_by e in rw kind omega arith
 
+-- a token at the front has a byte
 pub some_len : (b : ℕ) (bs : List ℕ) → is_space b ≡ false → 0 < front_len (b ∷ bs)
 some_len b bs e = omega (arith, len_by b bs false e)
 
+-- where no token is at the front, white space is
 none_by : (b : ℕ) (bs : List ℕ) (t : Bool) → is_space b ≡ t → front_len (b ∷ bs) ≡ 0 → is_space b ≡ true
 none_by b bs true e h = e
 none_by b bs false e h = absurd (omega (arith, len_by b bs false e))
 
+-- and where one is, none is
 some_by : (b : ℕ) (bs : List ℕ) (t : Bool) → is_space b ≡ t → 0 < front_len (b ∷ bs) → is_space b ≡ false
 some_by b bs false e h = e
 some_by b bs true e h = absurd (omega (arith, len_by b bs true e))
 
 -- ---- at an offset of the text
 
+-- a token at an offset has a byte
 pub some_at : (text : List ℕ) (at : ℕ) → at < length text → is_space (get_or text at 0) ≡ false
     → 0 < front_len (drop at text)
 some_at text at h e = rw (byte_at text at h) (some_len (get_or text at 0) (drop (at + 1) text) e)
 
+-- where no token is at an offset, white space is
 pub space_from_len : (text : List ℕ) (at : ℕ) → at < length text → front_len (drop at text) ≡ 0
     → is_space (get_or text at 0) ≡ true
 space_from_len text at h e =
     none_by (get_or text at 0) (drop (at + 1) text) (is_space (get_or text at 0)) refl
     (ap front_len (sym (byte_at text at h)) ∙ e)
 
+-- and where one is, none is
 pub token_from_len : (text : List ℕ) (at : ℕ) → at < length text → 0 < front_len (drop at text)
     → is_space (get_or text at 0) ≡ false
 token_from_len text at h e =
@@ -80,6 +86,7 @@ token_from_len text at h e =
 abbrev pub tokens_at : List ℕ → ℕ → List Token
 tokens_at text at = cut byte_kind at (drop at text)
 
+-- white space at an offset is no part of the tokens from there on
 pub white_on : (text : List ℕ) (at : ℕ) → at < length text → is_space (get_or text at 0) ≡ true
     → tokens_at text at ≡ tokens_at text (at + 1)
 white_on text at h e = ap (cut byte_kind at) (byte_at text at h)
@@ -89,6 +96,7 @@ white_on text at h e = ap (cut byte_kind at) (byte_at text at h)
 abbrev pub token_at : List ℕ → ℕ → ℕ → Token
 token_at text at n = record { at = at; bytes = take n (drop at text) }
 
+-- a token at an offset is the first of those from there on
 pub token_on : (text : List ℕ) (at : ℕ) → at < length text → is_space (get_or text at 0) ≡ false
     → tokens_at text at ≡ token_at text at (front_len (drop at text)) ∷ tokens_at text
     (at + front_len (drop at text))

@@ -22,10 +22,12 @@ use Rattle.cv_grid.specs.Grammar.{grid_with}
 
 -- ---- the header
 
+-- behind a token in the place of a word, which may stand there or not
 abbrev pub behind_word : ℕ → Settings → Option Word → Result (Option Reading) GridError
 behind_word line s None = Err (BadWord line)
 behind_word line s (Some w) = Ok (Some (record { said = s; word = Some w }))
 
+-- behind a token in the place of a value, which fits its word or not
 abbrev pub behind_value : ℕ → Option Settings → Result (Option Reading) GridError
 behind_value at None = Err (BadNumber at)
 behind_value at (Some s) = Ok (Some (record { said = s; word = None }))
@@ -36,6 +38,7 @@ taken_at text s None t =
     if is_header_token t.bytes then behind_word (line_at text t.at) s (free_word s t.bytes) else Ok None
 taken_at text s (Some w) t = behind_value t.at (with_value w t.bytes s)
 
+-- the same of a reader that stands between two entries, or behind a word
 unfoldable pub taken : List ℕ → Reading → Token → Result (Option Reading) GridError
 taken text r t = taken_at text r.said r.word t
 
@@ -48,6 +51,7 @@ abbrev pub ended : ℕ → Settings → Option Word → Result Headed GridError
 ended end s None = Ok (s, [])
 ended end s (Some w) = Err (BadNumber end)
 
+-- the answer at a token, where `answer` is that to the tokens behind it
 abbrev pub going_on : (Reading → Result Headed GridError) → Settings → List Token
     → Result (Option Reading) GridError → Result Headed GridError
 going_on answer s ts (Err e) = Err e
@@ -59,14 +63,17 @@ abbrev pub header_from : List ℕ → List Token → Reading → Result Headed G
 header_from text [] r = ended (length text) r.said r.word
 header_from text (t ∷ ts) r = going_on (header_from text ts) r.said (t ∷ ts) (taken text r t)
 
+-- before the first token
 abbrev pub at_start : Reading
 at_start = record { said = nothing_said; word = None }
 
 -- ---- the cells
 
+-- the answer at the end of the text
 abbrev pub if_whole : ℕ → List Cell → Result (List Cell) GridError
 if_whole total cells = if length cells == total then Ok cells else Err (TooFew (length cells))
 
+-- the answer at a token where a cell is due, where `answer` is that to the tokens behind it
 abbrev pub with_decimal : (List Cell → Result (List Cell) GridError) → Option ℤ → List Cell → ℕ
     → Option Fixed → Result (List Cell) GridError
 with_decimal answer void cells at None = Err (BadNumber at)
@@ -81,16 +88,19 @@ cells_from total void (t ∷ ts) cells =
 
 -- ---- a grid
 
+-- the answer behind a right header
 abbrev pub grid_behind : Layout → Result (List Cell) GridError → Result CellGrid GridError
 grid_behind l (Err e) = Err e
 grid_behind l (Ok cells) = Ok (grid_with l cells)
 
+-- the answer behind a header that lays out the cells, or lacks a word
 abbrev pub grid_laid : ℕ → Settings → List Token → Result Layout GridWord → Result CellGrid GridError
 grid_laid room s ts (Err word) = Err (MissingWord word)
 grid_laid room s ts (Ok l) =
     if is_large room l then Err TooLarge
     else grid_behind l (cells_from (l.cols * l.rows) (void_number s.nodata) ts [])
 
+-- the answer behind a header, or at its refusal
 abbrev pub grid_headed : ℕ → Result Headed GridError → Result CellGrid GridError
 grid_headed room (Err e) = Err e
 grid_headed room (Ok h) = grid_laid room h.0 h.1 (layout_of h.0)

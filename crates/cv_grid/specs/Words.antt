@@ -20,6 +20,7 @@ use Rattle.cv_grid.specs.declared.settings.Settings.{Settings}
 abbrev pub is_name : List ℕ → List ℕ → Bool
 is_name name bytes = str_eq_ignore_ascii_case name bytes
 
+-- the first byte is a letter of ASCII
 abbrev pub begins_with_letter : List ℕ → Bool
 begins_with_letter [] = false
 begins_with_letter (b ∷ bs) = is_ascii_alphabetic b
@@ -60,6 +61,7 @@ count_of bytes =
     else if list_all is_ascii_digit bytes then count_in (number_of bytes)
     else None
 
+-- the number of a value, but of nothing beyond the range and not of `nan`
 abbrev pub coordinate_in : Fixed → Option ℤ
 coordinate_in (Value z) = Some z
 coordinate_in _ = None
@@ -68,6 +70,7 @@ coordinate_in _ = None
 abbrev pub coordinate_of : List ℕ → Option ℤ
 coordinate_of bytes = option_and_then coordinate_in (decimal_of bytes)
 
+-- a side of a cell is at least one millionth
 abbrev pub size_in : ℤ → Option ℕ
 size_in z = if int_lt (pos 0) z then Some (unsigned_abs z) else None
 
@@ -77,6 +80,7 @@ size_of bytes = option_and_then size_in (coordinate_of bytes)
 
 -- ---- what a header has said so far
 
+-- before the first word
 abbrev pub nothing_said : Settings
 nothing_said = record {
   cols = None;
