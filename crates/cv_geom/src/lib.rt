@@ -6,20 +6,24 @@
 //! No call takes memory, no handle is needed.
 #![tactic(auto)]
 
-pub mod centres;
-pub mod laws;
+mod centres;
 mod lengths;
-pub mod markers;
+mod markers;
 mod measures;
-pub mod parity;
-pub mod pens;
+mod parity;
+mod pens;
 mod range;
-pub mod views;
+mod tilings;
+mod view_laws;
+mod views;
 
 pub use centres::centre;
 pub use markers::marked;
-pub use parity::inside;
+pub use measures::{distance, distance_to, product};
+pub use parity::{inside, is_low, passes_right};
 pub use pens::near;
+pub use tilings::{reverses_cross_alike, shared_edges_cancel, squares_unite, tiles_cover_once};
+pub use view_laws::{centres_lie_within, pans_add, views_show_their_extent};
 pub use views::{ViewError, pan, view_of, zoom};
 
 #[cfg(test)]

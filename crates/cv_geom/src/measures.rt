@@ -13,7 +13,7 @@ pub fn distance(from: i64, to: i64) -> i64
 }
 
 /// The distance from a coordinate, doubled, to a doubled one.
-pub fn reach(from: i64, to: i64) -> i64
+pub fn distance_to(from: i64, to: i64) -> i64
     requires from_in { IsCoordinate from }
     requires to_in { IsDoubled to }
     ensures { result ≡ to -ℤ pos 2 *ℤ from }

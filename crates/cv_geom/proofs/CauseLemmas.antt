@@ -21,7 +21,8 @@ told_by false (inl s) = cc
 told_by false (inr s) = s.1
 
 -- both of two tests hold, or one fails
-both : {P P' Q Q' : Type 0} (a b : Bool) → Decided a P P' → Decided b Q Q' → Decided (a && b) (P × Q) (P' ⊎ Q')
+both :
+    {P P' Q Q' : Type 0} (a b : Bool) → Decided a P P' → Decided b Q Q' → Decided (a && b) (P × Q) (P' ⊎ Q')
 both {P = P} {P' = P'} {Q = Q} {Q' = Q'} a b p q = record { told = told a b p.told q.told; apart = apart }
   where
     told : (a b : Bool) → MatchBool a P P' → MatchBool b Q Q' → MatchBool (a && b) (P × Q) (P' ⊎ Q')
@@ -33,14 +34,17 @@ both {P = P} {P' = P'} {Q = Q} {Q' = Q'} a b p q = record { told = told a b p.to
     apart h (inl x) = p.apart h.0 x
     apart h (inr y) = q.apart h.1 y
 
+-- what the test of a size tells
 size_decided : (w h : ℕ) → Decided (is_size w h) (IsSize w h) (IsNoSize w h)
 size_decided w h =
     record { told = told_by (is_size w h) (grind (arith, nat_tests)); apart = λ good bad. grind arith }
 
+-- what the test of an extent tells
 spread_decided : (e : Rectangle) → Decided (is_spread e) (IsSpread e) (IsEmpty e)
 spread_decided e =
     record { told = told_by (is_spread e) (grind (arith, ints)); apart = λ spread empty. grind (arith, ints) }
 
+-- what the test of a coordinate tells
 far_decided : (z : ℤ) → Decided (is_doubled z) (IsDoubled z) (IsFar z)
 far_decided z =
     record { told = told_by (is_doubled z) (grind (arith, ints)); apart = λ near far. grind (arith, ints) }
@@ -74,37 +78,55 @@ view_in_range v unit wide high test =
 abbrev chosen : Bool → Bool → Bool → PixelGrid → Result PixelGrid ViewError
 chosen s a r v = if s then (if a then (if r then Ok v else Err Range) else Err Empty) else Err Size
 
-size_first : {S S' : Type 0} (s a r : Bool) (v : PixelGrid) → Decided s S S' → (chosen s a r v ≡ Err Size) ↔ S'
+-- a size is refused where its test fails
+size_first :
+    {S S' : Type 0} (s a r : Bool) (v : PixelGrid) → Decided s S S' → (chosen s a r v ≡ Err Size) ↔ S'
 size_first false a r v size = (λ _. size.told, λ _. refl)
 size_first true false r v size = (λ e. cc, λ bad. absurd (size.apart size.told bad))
 size_first true true false v size = (λ e. cc, λ bad. absurd (size.apart size.told bad))
 size_first true true true v size = (λ e. cc, λ bad. absurd (size.apart size.told bad))
 
-empty_next : {S S' A A' : Type 0} (s a r : Bool) (v : PixelGrid) → Decided s S S' → Decided a A A' → (chosen s a r v ≡ Err Empty) ↔ (S × A')
+-- an extent is refused where its test fails and the size is right
+empty_next :
+    {S S' A A' : Type 0} (s a r : Bool) (v : PixelGrid) → Decided s S S' → Decided a A A'
+    → (chosen s a r v ≡ Err Empty) ↔ (S × A')
 empty_next false a r v size area = (λ e. cc, λ h. absurd (size.apart h.0 size.told))
 empty_next true false r v size area = (λ _. (size.told, area.told), λ _. refl)
 empty_next true true false v size area = (λ e. cc, λ h. absurd (area.apart area.told h.1))
 empty_next true true true v size area = (λ e. cc, λ h. absurd (area.apart area.told h.1))
 
-range_last : {S S' A A' R R' : Type 0} (s a r : Bool) (v : PixelGrid) → Decided s S S' → Decided a A A' → Decided r R R' → (chosen s a r v ≡ Err Range) ↔ (S × (A × R'))
+-- a range is refused where its test fails and the two tests before hold
+range_last :
+    {S S' A A' R R' : Type 0} (s a r : Bool) (v : PixelGrid) → Decided s S S' → Decided a A A'
+    → Decided r R R' → (chosen s a r v ≡ Err Range) ↔ (S × (A × R'))
 range_last false a r v size area range = (λ e. cc, λ h. absurd (size.apart h.0 size.told))
 range_last true false r v size area range = (λ e. cc, λ h. absurd (area.apart h.1.0 area.told))
 range_last true true false v size area range = (λ _. (size.told, (area.told, range.told)), λ _. refl)
 range_last true true true v size area range = (λ e. cc, λ h. absurd (range.apart range.told h.1.1))
 
+-- a view is refused for its size exactly where it has none that a view may have
 pub size_cause : (e : Rectangle) (w h : ℕ) → (view_of e w h ≡ Err Size) ↔ IsNoSize w h
 size_cause e w h =
     size_first (is_size w h) (is_spread e) (is_in_range (grid_of e w h)) (grid_of e w h) (size_decided w h)
 
+-- a view is refused for its extent exactly where the size is right and the extent is empty
 pub empty_cause : (e : Rectangle) (w h : ℕ) → (view_of e w h ≡ Err Empty) ↔ (IsSize w h × IsEmpty e)
 empty_cause e w h =
-    empty_next (is_size w h) (is_spread e) (is_in_range (grid_of e w h)) (grid_of e w h) (size_decided w h) (spread_decided e)
+    let v = grid_of e w h in
+    empty_next (is_size w h) (is_spread e) (is_in_range v) v (size_decided w h) (spread_decided e)
 
-pub range_cause : (e : Rectangle) (w h : ℕ) → (view_of e w h ≡ Err Range) ↔ (IsSize w h × (IsSpread e × LeavesRange (grid_of e w h)))
+-- a view is refused for its range exactly where size and extent are right and an edge lies beyond
+pub range_cause :
+    (e : Rectangle) (w h : ℕ)
+    → (view_of e w h ≡ Err Range) ↔ (IsSize w h × (IsSpread e × LeavesRange (grid_of e w h)))
 range_cause e w h =
-    range_last (is_size w h) (is_spread e) (is_in_range (grid_of e w h)) (grid_of e w h) (size_decided w h) (spread_decided e) (range_decided (grid_of e w h))
+    let v = grid_of e w h in
+    let tests = range_decided v in
+    range_last (is_size w h) (is_spread e) (is_in_range v) v (size_decided w h) (spread_decided e) tests
 
-kept_by : {R R' : Type 0} (r : Bool) (v : PixelGrid) → Decided r R R' → (chosen true true r v ≡ Err Range) ↔ R'
+-- what the test of a range decides
+kept_by :
+    {R R' : Type 0} (r : Bool) (v : PixelGrid) → Decided r R R' → (chosen true true r v ≡ Err Range) ↔ R'
 kept_by false v range = (λ _. range.told, λ _. refl)
 kept_by true v range = (λ e. cc, λ far. absurd (range.apart range.told far))
 
@@ -113,16 +135,21 @@ pub kept_cause : (v : PixelGrid) → (kept v ≡ Err Range) ↔ LeavesRange v
 kept_cause v = kept_by (is_in_range v) v (range_decided v)
 
 -- where all three tests hold
-all_passed : {S S' A A' : Type 0} (s a r : Bool) (v w : PixelGrid) → Decided s S S' → Decided a A A' → chosen s a r v ≡ Ok w → S × (A × (v ≡ w))
+all_passed :
+    {S S' A A' : Type 0} (s a r : Bool) (v w : PixelGrid) → Decided s S S' → Decided a A A'
+    → chosen s a r v ≡ Ok w → S × (A × (v ≡ w))
 all_passed true true true v w size area same = (size.told, (area.told, cc))
 all_passed true true false v w size area same = cc
 all_passed true false r v w size area same = cc
 all_passed false a r v w size area same = cc
 
 -- what there is a view of, and which
-pub view_found : (e : Rectangle) (w h : ℕ) (v : PixelGrid) → view_of e w h ≡ Ok v → IsSize w h × (IsSpread e × (grid_of e w h ≡ v))
+pub view_found :
+    (e : Rectangle) (w h : ℕ) (v : PixelGrid) → view_of e w h ≡ Ok v
+    → IsSize w h × (IsSpread e × (grid_of e w h ≡ v))
 view_found e w h v found =
-    all_passed (is_size w h) (is_spread e) (is_in_range (grid_of e w h)) (grid_of e w h) v (size_decided w h) (spread_decided e) found
+    let grid = grid_of e w h in
+    all_passed (is_size w h) (is_spread e) (is_in_range grid) grid v (size_decided w h) (spread_decided e) found
 
 -- a grid that was kept is the one asked for
 pub kept_same : (v w : PixelGrid) → kept v ≡ Ok w → v ≡ w

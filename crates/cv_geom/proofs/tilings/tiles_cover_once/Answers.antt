@@ -1,6 +1,6 @@
 use Rattle.cv_model.specs.Polygons.{is_inside}
 use Rattle.cv_geom.proofs.TilingLemmas.{is_inside-united, counted_once}
-use Rattle.cv_geom.proofs.laws.tiles_cover_once.Goals as goal
+use Rattle.cv_geom.proofs.tilings.tiles_cover_once.Goals as goal
 
 pub returns : goal.returns
 returns g = λ a b c p united apart.
