@@ -6,3 +6,5 @@ pub mod PositionLemmas
 pub mod CauseLemmas
 pub mod TilingLemmas
 pub mod ViewLemmas
+pub mod FallLemmas
+pub mod SpanLemmas

@@ -2,3 +2,5 @@
 pub mod Views
 pub mod ViewLaws
 pub mod Tilings
+pub mod Falls
+pub mod Spans

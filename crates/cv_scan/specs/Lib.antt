@@ -1,0 +1,3 @@
+-- The definitions of searches, of reaches and of spans.
+pub mod Reaches
+pub mod Runs
