@@ -8,3 +8,4 @@ pub mod TilingLemmas
 pub mod ViewLemmas
 pub mod FallLemmas
 pub mod SpanLemmas
+pub mod CentreLemmas

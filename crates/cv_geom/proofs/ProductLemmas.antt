@@ -21,3 +21,11 @@ add-mul a b c =
     let above = ap (λ n. n * up c) sum in
     let below = ap (λ n. n * down c) sum in
     omega (arith, ints, product_is (a +ℤ b) c, product_is a c, product_is b c)
+
+-- the lesser of two numbers, as many times
+pub mul-le-mulZ : (x y d : ℤ) → x ≤ℤ y → pos 0 ≤ℤ d → (x *ℤ d) ≤ℤ (y *ℤ d)
+mul-le-mulZ x y (pos m) less some =
+    let sum : up x + down y ≤ up y + down x = omega (arith, ints) in
+    let times = mul-le-mul_right m sum in
+    omega (arith, ints, product_is x (pos m), product_is y (pos m))
+mul-le-mulZ x y (negsuc m) less some = absurd (omega (arith, ints))

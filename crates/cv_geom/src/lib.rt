@@ -25,7 +25,7 @@ pub use falls::search;
 pub use markers::marked;
 pub use measures::{distance, distance_to, product};
 pub use parity::{inside, is_low, passes_right};
-pub use pens::near;
+pub use pens::{begins_before, ends_behind, near, overlaps_upwards};
 pub use spans::runs_are_one;
 pub use steps::Steps;
 pub use tilings::{reverses_cross_alike, shared_edges_cancel, squares_unite, tiles_cover_once};

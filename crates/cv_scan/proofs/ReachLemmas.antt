@@ -8,6 +8,8 @@ use Rattle.cv_model.specs.Positions.{Position, doubled}
 use Rattle.cv_model.specs.Views.{PixelGrid, centre_of}
 use Rattle.cv_model.specs.Polygons.{is_low, passes_right, crosses, is_crossed}
 use Rattle.cv_geom.specs.Falls.{FallsAt}
+use Rattle.cv_geom.proofs.ProductLemmas.{mul-le-mulZ}
+use Rattle.cv_geom.proofs.CentreLemmas.{centres-rise}
 use Rattle.cv_scan.specs.Reaches.{passes, edge_reach}
 
 -- below n a test that holds at a number holds at those before it
@@ -78,22 +80,6 @@ falls-at test n falls = record {
   high_in = passes-le test n;
   falls = λ k from below. falls-passes test n falls k below;
 }
-
--- the lesser of two numbers, as many times
-pub mul-le-mulZ : (x y d : ℤ) → x ≤ℤ y → pos 0 ≤ℤ d → (x *ℤ d) ≤ℤ (y *ℤ d)
-mul-le-mulZ x y (pos m) less some =
-    let sum : up x + down y ≤ up y + down x = omega (arith, ints) in
-    let times = mul-le-mul_right m sum in
-    omega (arith, ints, product_is x (pos m), product_is y (pos m))
-mul-le-mulZ x y (negsuc m) less some = absurd (omega (arith, ints))
-
--- centres ascend from left to right
-pub centres-rise :
-    (v : PixelGrid) (i k j : ℕ) → pos 1 ≤ℤ v.u → i ≤ k → (centre_of v i j).x ≤ℤ (centre_of v k j).x
-centres-rise v i k j unit less =
-    let step : pos (2 * i + 1) ≤ℤ pos (2 * k + 1) = omega (arith, ints) in
-    let wide = mul-le-mulZ (pos (2 * i + 1)) (pos (2 * k + 1)) v.u step (omega (arith, ints)) in
-    omega (arith, ints)
 
 -- what passes right of a position passes right of those left of it
 passes-left :
