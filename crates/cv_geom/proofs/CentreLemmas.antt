@@ -1,5 +1,5 @@
 -- The centres of a row.
-use Rattle.std.proofs.Common.{ℕ, ◌+◌, ◌*◌, ◌≤◌, pos, ◌+ℤ◌, ◌*ℤ◌, ◌≤ℤ◌, arith}
+use Rattle.std.proofs.Common.{ℕ, ◌+◌, ◌*◌, ◌≤◌, pos, ◌≤ℤ◌, arith}
 use Rattle.std.proofs.lemmas.Int.{ints}
 use Rattle.cv_model.specs.Views.{PixelGrid, centre_of}
 use Rattle.cv_geom.proofs.ProductLemmas.{mul-le-mulZ}

@@ -273,7 +273,8 @@ are-corners r p a b some rises =
       some = omega (arith, ints, grows, product_is (pos 0) r);
     }
 
--- at a height at which they overlap a pen hits a segment up from a to b where it lies neither before nor behind
+-- at a height at which they overlap a pen hits a segment up from a to b where it lies neither before it nor
+-- behind
 pub meets-up :
     (r : ℤ) (p a b : Position) → pos 0 ≤ℤ r → a.y ≤ℤ b.y → overlaps r p.y a.y b.y ≡ true
     → meets r p a b ≡ (not (is_before r p a b) && is_reached r p a b)

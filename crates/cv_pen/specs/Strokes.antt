@@ -8,7 +8,8 @@ use Rattle.cv_model.specs.Pens.{side_of}
 abbrev pub IsPenWidth : ℕ → Type 0
 IsPenWidth n = (1 ≤ n) × (n ≤ 64)
 
--- how much the corners of a square of half-side r differ from its middle in their side of the line up from a to b
+-- how much the corners of a square of half-side r differ from its middle in their side of the line up from
+-- a to b
 abbrev pub corner_way : ℤ → Position → Position → ℤ
 corner_way r a b = r *ℤ (pos (unsigned_abs (b.x -ℤ a.x)) +ℤ (b.y -ℤ a.y))
 

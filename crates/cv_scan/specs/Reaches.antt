@@ -1,4 +1,5 @@
--- How far the crossing of an edge with a row's height reaches: as many centres of the row lie strictly left of it.
+-- How far the crossing of an edge with a row's height reaches: so many centres of the row lie strictly left
+-- of it.
 use Rattle.std.specs.Prelude.{ℕ, zero, suc, ◌+◌, ◌≡◌, ◌<◌, nat_lt, Bool, if◌then◌else◌, pos, ◌≤ℤ◌}
 use Rattle.cv_model.specs.Positions.{Position}
 use Rattle.cv_model.specs.Views.{PixelGrid, centre_of}

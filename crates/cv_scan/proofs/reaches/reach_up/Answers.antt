@@ -1,4 +1,4 @@
-use Rattle.std.proofs.Common.{◌≡◌, ℕ, Bool, pos, ◌≤ℤ◌, ap, arith, rules, of_calls}
+use Rattle.std.proofs.Common.{ℕ, Bool, pos, ◌≤ℤ◌, ap, arith, rules, of_calls}
 use Rattle.std.proofs.lemmas.Int.{ints}
 use Rattle.cv_model.specs.Positions.{doubled}
 use Rattle.cv_model.specs.Polygons.{passes_right}

@@ -1,4 +1,4 @@
-use Rattle.std.proofs.Common.{sym, ap, arith}
+use Rattle.std.proofs.Common.{sym, arith}
 use Rattle.cv_geom.proofs.CrossingLemmas.{edges-last}
 use Rattle.cv_scan.proofs.row.put_ring.Goals as goal
 

@@ -1,9 +1,8 @@
-use Rattle.std.proofs.Common.{◌≡◌, ◌∙◌, ◌++◌, sym, ap, ℕ, ◌==◌, ◌%◌, List, pos, ◌≤ℤ◌}
-use Rattle.std.specs.List.{All, flat_map}
-use Rattle.cv_model.specs.Polygons.{edges, is_inside, crossings}
+use Rattle.std.proofs.Common.{◌∙◌, ap, ◌==◌, ◌%◌, pos, ◌≤ℤ◌}
+use Rattle.std.specs.List.{flat_map}
+use Rattle.cv_model.specs.Polygons.{edges, is_inside}
 use Rattle.cv_model.specs.Views.{PixelGrid, centre_of}
-use Rattle.cv_geom.specs.Spans.{AreRuns}
-use Rattle.cv_scan.specs.Runs.{beyond, reaches_in, LiesWithin}
+use Rattle.cv_scan.specs.Runs.{beyond}
 use Rattle.cv_scan.proofs.RunLemmas.{reaches-within, reaches-crossings, joined-runs}
 use Rattle.cv_scan.proofs.row.spans_between.Goals as goal
 
