@@ -17,7 +17,8 @@ AreApart low high [] = Unit {0}
 AreApart low high (span ∷ rest) =
     (low ≤ span.from) × (span.from < span.end) × (span.end ≤ high) × AreApart (span.end + 1) high rest
 
--- spans are the maximal runs, in ascending order, of the columns from `from` up to and without `to` where a test holds
+-- spans are the maximal runs, in ascending order, of the columns from `from` up to and without `to` where a
+-- test holds
 pub record AreRuns (test : ℕ → Bool) (from to : ℕ) (spans : List Span) : Type 0 where
   pub apart : AreApart from to spans
   pub covered : (i : ℕ) → from ≤ i → i < to → is_covered i spans ≡ test i

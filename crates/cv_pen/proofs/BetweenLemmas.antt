@@ -1,9 +1,9 @@
 -- The run between the columns before a shape and those behind it.
-use Rattle.std.proofs.Common.{◌≡◌, ◌∙◌, sym, ap, refl, ℕ, ◌<◌, ◌≤◌, nat_lt, nat_le, ◌⊎◌, inl, inr, Bool, true, false, not, ◌&&◌, ◌||◌, List, [], ◌∷◌, arith}
+use Rattle.std.proofs.Common.{◌≡◌, ◌∙◌, sym, refl, ℕ, ◌<◌, ◌≤◌, nat_lt, nat_le, Bool, true, false, not, ◌&&◌, ◌||◌, List, [], ◌∷◌, arith}
 use Rattle.std.proofs.lemmas.Bool.Decides.{nat_tests}
 use Rattle.cv_model.specs.declared.span.Span.{Span}
 use Rattle.cv_geom.specs.Falls.{FallsAt}
-use Rattle.cv_geom.specs.Spans.{is_covered, AreRuns}
+use Rattle.cv_geom.specs.Spans.{AreRuns}
 
 -- a column lies in the run exactly where it isn't before the shape and is reached
 some-covered :

@@ -1,12 +1,12 @@
 -- The sides of a pen's corners, and the columns before and behind a segment.
-use Rattle.std.proofs.Common.{◌≡◌, ◌∙◌, sym, ap, refl, ℕ, suc, List, [], ◌∷◌, ◌+◌, ◌*◌, ◌<◌, ◌≤◌, Bool, true, false, not, ◌&&◌, ◌||◌, ℤ, pos, negsuc, neg_ℤ, ◌+ℤ◌, ◌-ℤ◌, ◌*ℤ◌, ◌<ℤ◌, ◌≤ℤ◌, int_lt, int_le, unsigned_abs, arith}
+use Rattle.std.proofs.Common.{◌≡◌, ◌∙◌, sym, ap, refl, ℕ, suc, List, [], ◌∷◌, ◌+◌, ◌*◌, Bool, true, false, not, ◌&&◌, ◌||◌, ℤ, pos, negsuc, neg_ℤ, ◌+ℤ◌, ◌-ℤ◌, ◌*ℤ◌, ◌≤ℤ◌, int_lt, int_le, unsigned_abs, arith}
 use borrow.Author.Differences.{up, down, product_is}
 use Rattle.std.specs.Int.{int_max, int_min}
 use Rattle.std.specs.List.{list_all}
 use Rattle.std.proofs.lemmas.Int.{ints, clamps, unsigned_abs-mul}
-use Rattle.cv_model.specs.Positions.{Position, doubled}
+use Rattle.cv_model.specs.Positions.{Position}
 use Rattle.cv_model.specs.Views.{PixelGrid, centre_of}
-use Rattle.cv_model.specs.Pens.{overlaps, side_of, corners, straddles, meets, is_near}
+use Rattle.cv_model.specs.Pens.{overlaps, side_of, corners, straddles, meets}
 use Rattle.cv_geom.specs.Falls.{FallsIn}
 use Rattle.cv_geom.proofs.ProductLemmas.{add-mul, mul-le-mulZ}
 use Rattle.cv_geom.proofs.CentreLemmas.{centres-rise}

@@ -1,3 +1,3 @@
--- The definitions of searches, of reaches and of spans.
+-- The definitions of reaches, and of the runs made of them.
 pub mod Reaches
 pub mod Runs

@@ -1,4 +1,4 @@
-use Rattle.std.proofs.Common.{◌≡◌, ℕ, Bool, pos, ◌≤ℤ◌, ap, w64, arith, rules, of_calls}
+use Rattle.std.proofs.Common.{◌≡◌, pos, ◌≤ℤ◌, ap, w64, arith, rules, of_calls}
 use mir.Val.{to_z, of_z}
 use Rattle.std.proofs.lemmas.Int.{ints, to_z-of_z}
 use Rattle.cv_model.specs.Positions.{doubled}
