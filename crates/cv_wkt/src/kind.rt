@@ -124,7 +124,9 @@ fn found_in<T: Copy>(table: &[(&[u8], T)], bytes: &[u8]) -> Option<(T, bool)>
     None
 }
 
-/// The kind of a geometry's word, or of a word that is refused.
+/// The kind of a geometry's word, or of a word that is refused. A call of its own, since within the loop over
+/// all tokens the search would take registers from the numbers.
+#[inline(never)]
 #[tactic(auto, unfolding(crate::specs::Kind::geometry_kind))]
 fn geometry_kind(bytes: &[u8]) -> Kind
     ensures kind { result ≡ geometry_kind bytes.now }
