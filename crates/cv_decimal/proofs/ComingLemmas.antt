@@ -2,24 +2,24 @@
 use Rattle.std.proofs.Common.{◌≡◌, ◌↔◌, ℕ, List, [], ◌∷◌, ◌++◌, map, Option, Some, None, option_map}
 use Rattle.std.proofs.Common.{IsSomeAnd, refl, sym, ap, subst}
 use Rattle.cv_reading.specs.Readings.{Reads}
-use Rattle.cv_decimal.specs.declared.mark.Mark.{Mark}
-use Rattle.cv_decimal.specs.declared.mark.Mark.TheVariants.{Digit, Point, Plus, Minus, LetterE, LetterN}
-use Rattle.cv_decimal.specs.declared.mark.Mark.TheVariants.{LetterA}
-use Rattle.cv_decimal.specs.declared.place.Place.{Place}
-use Rattle.cv_decimal.specs.declared.place.Place.TheVariants.{Start, Signed, OneLetter, TwoLetters, Nan}
-use Rattle.cv_decimal.specs.declared.place.Place.TheVariants.{Whole, Bare, Dotted, Marked, MarkedSigned}
-use Rattle.cv_decimal.specs.declared.place.Place.TheVariants.{Powered}
-use Rattle.cv_decimal.specs.declared.place.Role.{Role}
-use Rattle.cv_decimal.specs.declared.place.Role.TheVariants.{Negative, WholeDigit, RestDigit, Lowering}
-use Rattle.cv_decimal.specs.declared.place.Role.TheVariants.{PowerDigit}
-use Rattle.cv_decimal.specs.declared.fixed.Fixed.{Fixed}
-use Rattle.cv_decimal.specs.declared.fixed.Fixed.TheVariants.{NotNumber}
-use Rattle.cv_decimal.specs.Mark.{mark_of}
-use Rattle.cv_decimal.specs.Spellings.{Sign, NoSign, PlusSign, MinusSign, Mantissa, Digits, PointFirst}
-use Rattle.cv_decimal.specs.Spellings.{Exponent, NoExponent, TenTo, Body, NotANumber, Number, sign_marks}
-use Rattle.cv_decimal.specs.Spellings.{digit_marks, fraction_marks, exponent_marks, body_marks}
-use Rattle.cv_decimal.specs.Reader.{At, Parts, with_role, worth, decimal_reader}
-use Rattle.cv_decimal.specs.Place.{next_of, worth_at}
+use Rattle.cv_number.specs.declared.mark.Mark.{Mark}
+use Rattle.cv_number.specs.declared.mark.Mark.TheVariants.{Digit, Point, Plus, Minus, LetterE, LetterN}
+use Rattle.cv_number.specs.declared.mark.Mark.TheVariants.{LetterA}
+use Rattle.cv_number.specs.declared.place.Place.{Place}
+use Rattle.cv_number.specs.declared.place.Place.TheVariants.{Start, Signed, OneLetter, TwoLetters, Nan}
+use Rattle.cv_number.specs.declared.place.Place.TheVariants.{Whole, Bare, Dotted, Marked, MarkedSigned}
+use Rattle.cv_number.specs.declared.place.Place.TheVariants.{Powered}
+use Rattle.cv_number.specs.declared.place.Role.{Role}
+use Rattle.cv_number.specs.declared.place.Role.TheVariants.{Negative, WholeDigit, RestDigit, Lowering}
+use Rattle.cv_number.specs.declared.place.Role.TheVariants.{PowerDigit}
+use Rattle.cv_number.specs.declared.fixed.Fixed.{Fixed}
+use Rattle.cv_number.specs.declared.fixed.Fixed.TheVariants.{NotNumber}
+use Rattle.cv_number.specs.Mark.{mark_of}
+use Rattle.cv_number.specs.Spellings.{Sign, NoSign, PlusSign, MinusSign, Mantissa, Digits, PointFirst}
+use Rattle.cv_number.specs.Spellings.{Exponent, NoExponent, TenTo, Body, NotANumber, Number, sign_marks}
+use Rattle.cv_number.specs.Spellings.{digit_marks, fraction_marks, exponent_marks, body_marks}
+use Rattle.cv_number.specs.Reader.{At, Parts, with_role, worth, decimal_reader}
+use Rattle.cv_number.specs.Place.{next_of, worth_at}
 
 -- ---- the numbers behind a piece of a spelling
 

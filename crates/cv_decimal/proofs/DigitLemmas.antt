@@ -8,13 +8,13 @@ use Rattle.std.specs.List.{prefix_len}
 use Rattle.cv_reading.specs.Machines.{run, one_further, further_by, from_there}
 use Rattle.cv_reading.proofs.MachineLemmas.{further_by-one_further}
 use Rattle.cv_decimal.specs.declared.kept.Kept.{Kept}
-use Rattle.cv_decimal.specs.declared.mark.Mark.TheVariants.{Digit}
-use Rattle.cv_decimal.specs.declared.place.Place.{Place}
-use Rattle.cv_decimal.specs.declared.place.Place.TheVariants.{Whole, Dotted}
-use Rattle.cv_decimal.specs.declared.place.Role.{Role}
-use Rattle.cv_decimal.specs.declared.place.Role.TheVariants.{WholeDigit, RestDigit}
-use Rattle.cv_decimal.specs.Mark.{is_digit, mark_of}
-use Rattle.cv_decimal.specs.Place.{next_of}
+use Rattle.cv_number.specs.declared.mark.Mark.TheVariants.{Digit}
+use Rattle.cv_number.specs.declared.place.Place.{Place}
+use Rattle.cv_number.specs.declared.place.Place.TheVariants.{Whole, Dotted}
+use Rattle.cv_number.specs.declared.place.Role.{Role}
+use Rattle.cv_number.specs.declared.place.Role.TheVariants.{WholeDigit, RestDigit}
+use Rattle.cv_number.specs.Mark.{is_digit, mark_of}
+use Rattle.cv_number.specs.Place.{next_of}
 use Rattle.cv_decimal.specs.Kept.{with_digit, with_places, kept_role, keeping_reader, answer_at, Goes}
 
 -- ---- one byte

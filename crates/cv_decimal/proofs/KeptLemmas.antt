@@ -4,23 +4,23 @@ use Rattle.std.proofs.Common.{nat_lt, if◌then◌else◌, List, length, Option,
 use Rattle.std.proofs.Common.{refl, sym, ap, ap₂, subst, ◌∙◌, inl, inr, arith, ltb-true, ltb-false}
 use Rattle.std.proofs.lemmas.Bool.{cases_lt}
 use Rattle.std.proofs.lemmas.Bool.Decides.{nat_tests}
-use Rattle.cv_model.specs.Rounding.{rnd}
+use Rattle.cv_number.specs.Rounding.{rnd}
 use Rattle.cv_reading.specs.Machines.{run, StepsAlike, GoAlike}
 use Rattle.cv_reading.proofs.MachineLemmas.{same_run}
 use Rattle.cv_decimal.specs.declared.kept.Kept.{Kept}
-use Rattle.cv_decimal.specs.declared.mark.Mark.{Mark}
-use Rattle.cv_decimal.specs.declared.mark.Mark.TheVariants.{Digit, Point, Plus, Minus, LetterE, LetterN}
-use Rattle.cv_decimal.specs.declared.mark.Mark.TheVariants.{LetterA, Other}
-use Rattle.cv_decimal.specs.declared.place.Place.{Place}
-use Rattle.cv_decimal.specs.declared.place.Place.TheVariants.{Start, Signed, OneLetter, TwoLetters, Whole}
-use Rattle.cv_decimal.specs.declared.place.Place.TheVariants.{Bare, Dotted, Marked, MarkedSigned, Powered}
-use Rattle.cv_decimal.specs.declared.place.Role.{Role}
-use Rattle.cv_decimal.specs.declared.place.Role.TheVariants.{Form, Negative, WholeDigit, RestDigit, Lowering}
-use Rattle.cv_decimal.specs.declared.place.Role.TheVariants.{PowerDigit}
-use Rattle.cv_decimal.specs.Mark.{is_digit, is_letter, mark_of}
-use Rattle.cv_decimal.specs.Spellings.{fixed}
-use Rattle.cv_decimal.specs.Reader.{At, Parts, with_role, worth, nothing_read, decimal_reader}
-use Rattle.cv_decimal.specs.Place.{next_of, worth_at}
+use Rattle.cv_number.specs.declared.mark.Mark.{Mark}
+use Rattle.cv_number.specs.declared.mark.Mark.TheVariants.{Digit, Point, Plus, Minus, LetterE, LetterN}
+use Rattle.cv_number.specs.declared.mark.Mark.TheVariants.{LetterA, Other}
+use Rattle.cv_number.specs.declared.place.Place.{Place}
+use Rattle.cv_number.specs.declared.place.Place.TheVariants.{Start, Signed, OneLetter, TwoLetters, Whole}
+use Rattle.cv_number.specs.declared.place.Place.TheVariants.{Bare, Dotted, Marked, MarkedSigned, Powered}
+use Rattle.cv_number.specs.declared.place.Role.{Role}
+use Rattle.cv_number.specs.declared.place.Role.TheVariants.{Form, Negative, WholeDigit, RestDigit, Lowering}
+use Rattle.cv_number.specs.declared.place.Role.TheVariants.{PowerDigit}
+use Rattle.cv_number.specs.Mark.{is_digit, is_letter, mark_of}
+use Rattle.cv_number.specs.Spellings.{fixed}
+use Rattle.cv_number.specs.Reader.{At, Parts, with_role, worth, nothing_read, decimal_reader}
+use Rattle.cv_number.specs.Place.{next_of, worth_at}
 use Rattle.cv_decimal.specs.Kept.{with_digit, kept_role, settled, kept_worth, nothing_kept, keeping_reader}
 use Rattle.cv_decimal.specs.Kept.{answer_at}
 use Rattle.cv_decimal.proofs.NumberLemmas.{Stands, stands_zero, stands_kept, stands_dropped, settled_is}

@@ -8,10 +8,11 @@ use Rattle.std.proofs.lemmas.Nat.{div-mul-add, pow-add, le-div}
 use Rattle.std.proofs.lemmas.Bool.Decides.{nat_tests}
 use Rattle.std.proofs.lemmas.Bool.{cases_lt}
 use Rattle.std.proofs.lemmas.Int.{ints}
-use Rattle.cv_model.specs.Rounding.{rnd}
+use Rattle.cv_number.specs.Rounding.{rnd}
 use Rattle.cv_model.specs.Positions.{IsCoordinate}
-use Rattle.cv_decimal.specs.declared.fixed.Fixed.TheVariants.{Value, High, Low}
-use Rattle.cv_decimal.specs.Spellings.{fixed, IsInRange}
+use Rattle.cv_number.specs.declared.fixed.Fixed.TheVariants.{Value, High, Low}
+use Rattle.cv_number.specs.Spellings.{fixed}
+use Rattle.cv_decimal.specs.Ranges.{IsInRange}
 use Rattle.cv_decimal.specs.Kept.{settled}
 
 -- ---- rounded quotients

@@ -3,10 +3,10 @@ use Rattle.std.proofs.Common.{◌≡◌, ℕ, ◌<◌, ◌≤◌, List, length, 
 use Rattle.std.specs.Result.{result_ok}
 use Rattle.cv_reading.specs.Readings.{IsReading}
 use Rattle.cv_decimal.specs.declared.kept.Kept.{Kept}
-use Rattle.cv_decimal.specs.declared.place.Place.{Place}
-use Rattle.cv_decimal.specs.declared.place.Place.TheVariants.{Start}
-use Rattle.cv_decimal.specs.Spellings.{Spells}
-use Rattle.cv_decimal.specs.Reader.{decimal_of}
+use Rattle.cv_number.specs.declared.place.Place.{Place}
+use Rattle.cv_number.specs.declared.place.Place.TheVariants.{Start}
+use Rattle.cv_number.specs.Spellings.{Spells}
+use Rattle.cv_number.specs.Reader.{decimal_of}
 use Rattle.cv_decimal.specs.Kept.{nothing_kept, answer_at, Goes}
 use Rattle.cv_decimal.proofs.ValueLemmas.{decimal_reads}
 use Rattle.cv_decimal.proofs.KeptLemmas.{keeping_is}

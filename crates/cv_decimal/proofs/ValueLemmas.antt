@@ -2,19 +2,20 @@
 use Rattle.std.proofs.Common.{◌≡◌, ◌↔◌, ℕ, ◌+◌, ◌*◌, ◌^◌, Bool, false, List, [], ◌∷◌, length, map, Option}
 use Rattle.std.proofs.Common.{Some, None, refl, sym, ap, subst, ◌∙◌, arith}
 use Rattle.std.proofs.lemmas.List.Sums.{fold-append}
-use Rattle.cv_model.specs.Rounding.{rnd}
+use Rattle.cv_number.specs.Rounding.{rnd}
 use Rattle.cv_reading.specs.Machines.{run}
 use Rattle.cv_reading.specs.Readings.{IsReading}
 use Rattle.cv_reading.proofs.ReadingLemmas.{is_reading, same_reading, value_spelt}
-use Rattle.cv_decimal.specs.declared.place.Place.TheVariants.{Start}
-use Rattle.cv_decimal.specs.declared.place.Role.TheVariants.{WholeDigit, RestDigit, PowerDigit}
-use Rattle.cv_decimal.specs.declared.fixed.Fixed.{Fixed}
-use Rattle.cv_decimal.specs.Mark.{mark_of}
-use Rattle.cv_decimal.specs.Spellings.{Sign, NoSign, PlusSign, MinusSign, Mantissa, Digits, PointFirst}
-use Rattle.cv_decimal.specs.Spellings.{Exponent, NoExponent, TenTo, Body, NotANumber, Number, number_from}
-use Rattle.cv_decimal.specs.Spellings.{all_digits, places, raised, lowered, is_minus, fixed, value, Spells}
-use Rattle.cv_decimal.specs.Spellings.{IsInRange}
-use Rattle.cv_decimal.specs.Reader.{Parts, with_role, worth, nothing_read, decimal_reader, decimal_of}
+use Rattle.cv_number.specs.declared.place.Place.TheVariants.{Start}
+use Rattle.cv_number.specs.declared.place.Role.TheVariants.{WholeDigit, RestDigit, PowerDigit}
+use Rattle.cv_number.specs.declared.fixed.Fixed.{Fixed}
+use Rattle.cv_number.specs.Mark.{mark_of}
+use Rattle.cv_number.specs.Spellings.{Sign, NoSign, PlusSign, MinusSign, Mantissa, Digits, PointFirst}
+use Rattle.cv_number.specs.Spellings.{Exponent, NoExponent, TenTo, Body, NotANumber, Number, number_from}
+use Rattle.cv_number.specs.Spellings.{all_digits, places, raised, lowered, is_minus, fixed, value, Spells}
+use Rattle.cv_number.specs.Spellings.{}
+use Rattle.cv_decimal.specs.Ranges.{IsInRange}
+use Rattle.cv_number.specs.Reader.{Parts, with_role, worth, nothing_read, decimal_reader, decimal_of}
 use Rattle.cv_decimal.proofs.ComingLemmas.{with_whole, with_rest, with_power, with_sign, with_mantissa}
 use Rattle.cv_decimal.proofs.ComingLemmas.{with_power_sign, with_exponent, body_worth, Comes, Rest, reads}
 use Rattle.cv_decimal.proofs.NumberLemmas.{fixed_in}

@@ -11,13 +11,13 @@ use Rattle.std.proofs.lemmas.Bool.{cases_lt}
 use Rattle.std.proofs.lemmas.Bool.Decides.{nat_tests}
 use Rattle.std.proofs.lemmas.Int.{ints}
 use Rattle.std.proofs.lemmas.Fmt.{decimal_by_steps}
-use Rattle.cv_model.specs.Rounding.{rnd}
+use Rattle.cv_number.specs.Rounding.{rnd}
 use Rattle.cv_model.specs.Positions.{IsCoordinate}
-use Rattle.cv_decimal.specs.declared.mark.Mark.TheVariants.{Digit, Point, Minus}
-use Rattle.cv_decimal.specs.declared.fixed.Fixed.TheVariants.{Value}
-use Rattle.cv_decimal.specs.Mark.{is_digit, mark_of}
-use Rattle.cv_decimal.specs.Spellings.{NoSign, MinusSign, Mantissa, Digits, NoExponent, Number, digit_marks}
-use Rattle.cv_decimal.specs.Spellings.{mantissa_marks, number_from, all_digits, places, fixed, Spells}
+use Rattle.cv_number.specs.declared.mark.Mark.TheVariants.{Digit, Point, Minus}
+use Rattle.cv_number.specs.declared.fixed.Fixed.TheVariants.{Value}
+use Rattle.cv_number.specs.Mark.{is_digit, mark_of}
+use Rattle.cv_number.specs.Spellings.{NoSign, MinusSign, Mantissa, Digits, NoExponent, Number, digit_marks}
+use Rattle.cv_number.specs.Spellings.{mantissa_marks, number_from, all_digits, places, fixed, Spells}
 use Rattle.cv_decimal.specs.Written.{places_of, written_size, written}
 use Rattle.cv_decimal.proofs.DigitLemmas.{mark_is}
 use Rattle.cv_decimal.proofs.NumberLemmas.{rnd_whole, ten_pos, fixed_fits}

@@ -1,16 +1,16 @@
 -- What is kept of the numbers while they are read: 18 digits, two counts, and an exponent up to 2^64 - 1.
 use Rattle.std.specs.Prelude.{◌≡◌, ℕ, List, drop, Result, ◌+◌, ◌-◌, ◌*◌, ◌^◌, min, true, false, nat_lt}
 use Rattle.std.specs.Prelude.{nat_le, ◌==◌, if◌then◌else◌}
-use Rattle.cv_model.specs.Rounding.{rnd}
+use Rattle.cv_number.specs.Rounding.{rnd}
 use Rattle.cv_reading.specs.Machines.{Machine, run, further_by}
 use Rattle.cv_decimal.specs.declared.kept.Kept.{Kept}
-use Rattle.cv_decimal.specs.declared.place.Place.{Place}
-use Rattle.cv_decimal.specs.declared.place.Role.{Role}
-use Rattle.cv_decimal.specs.declared.place.Role.TheVariants.{Form, Negative, WholeDigit, RestDigit, Lowering}
-use Rattle.cv_decimal.specs.declared.place.Role.TheVariants.{PowerDigit}
-use Rattle.cv_decimal.specs.declared.fixed.Fixed.{Fixed}
-use Rattle.cv_decimal.specs.Spellings.{fixed}
-use Rattle.cv_decimal.specs.Reader.{At, going}
+use Rattle.cv_number.specs.declared.place.Place.{Place}
+use Rattle.cv_number.specs.declared.place.Role.{Role}
+use Rattle.cv_number.specs.declared.place.Role.TheVariants.{Form, Negative, WholeDigit, RestDigit, Lowering}
+use Rattle.cv_number.specs.declared.place.Role.TheVariants.{PowerDigit}
+use Rattle.cv_number.specs.declared.fixed.Fixed.{Fixed}
+use Rattle.cv_number.specs.Spellings.{fixed}
+use Rattle.cv_number.specs.Reader.{At, going}
 
 -- one digit more: behind 18 digits it is only counted
 abbrev pub with_digit : ℕ → Kept → Kept

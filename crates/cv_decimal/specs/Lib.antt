@@ -1,8 +1,5 @@
--- Decimals: their marks, their grammar and value, the machine that reads them, and their written form.
-pub mod Mark
-pub mod Spellings
-pub mod Place
-pub mod Reader
+-- Decimals as they are read: what is kept of their numbers, the short way, and their written form.
+pub mod Ranges
 pub mod Kept
 pub mod Plain
 pub mod Written

@@ -2,7 +2,7 @@
 use Rattle.std.specs.Prelude.{ℕ, ◌==◌, ◌&&◌, nat_lt, nat_le, Bool, true, false, if◌then◌else◌, List, [], ◌∷◌}
 use Rattle.std.specs.Prelude.{length, drop}
 use Rattle.std.specs.List.{prefix_len}
-use Rattle.cv_decimal.specs.Mark.{is_digit}
+use Rattle.cv_number.specs.Mark.{is_digit}
 
 -- nothing, or a point and digits or none
 abbrev pub is_plain_rest : List ℕ → Bool

@@ -1,14 +1,12 @@
 //! What is kept of a decimal's numbers while it is read.
 ghost use Rattle.std.specs.Prelude.{◌≡◌, ◌+◌, ◌*◌, ◌^◌, ◌<◌, ◌≤◌, min, length};
 ghost use Rattle.std.specs.List.{prefix_len};
-ghost use Rattle.cv_model.specs.Rounding.{rnd};
-ghost use Rattle.cv_decimal.specs.Mark.{is_digit};
-ghost use Rattle.cv_decimal.specs.Spellings.{fixed};
+ghost use Rattle.cv_number.specs.Rounding.{rnd};
+ghost use Rattle.cv_number.specs.Mark.{is_digit};
+ghost use Rattle.cv_number.specs.Spellings.{fixed};
 ghost use Rattle.cv_decimal.specs.Kept.{with_digit, with_places, kept_role, settled, kept_worth, nothing_kept, Goes};
 
-use crate::fixed::Fixed;
-use crate::mark::Mark;
-use crate::place::{Place, Role};
+use cv_number::{Fixed, Mark, Place, Role};
 
 /// The largest value, 10^15 millionths.
 const LIMIT: u64 = 1_000_000_000_000_000;

@@ -2,7 +2,8 @@
 //!
 //! Contract: `read` answers the value that the grammar spells, all digits taken as one number and
 //! rounded half away from zero, and else the first byte that can't stand; `write` gives the written
-//! form, which `read` reads back. Definitions: `Spellings`, `Written`, and as a function `Reader`.
+//! form, which `read` reads back. Definitions: `Spellings` and, as a function, `Reader` of `cv_number`;
+//! `Written`.
 //! `read` takes no memory, goes over a plain text once and over any other twice at most, and keeps 18
 //! digits, whatever the lengths.
 #![tactic(auto)]
@@ -10,19 +11,19 @@
 ghost use Rattle.std.specs.Prelude.{◌≡◌, ◌↔◌, ℕ, ℤ, List, [], Some, None, IfOk, string_bytes};
 ghost use Rattle.cv_model.specs.Positions.{IsCoordinate};
 ghost use Rattle.std.specs.Result.{result_ok};
-ghost use Rattle.cv_decimal.specs.Spellings.{Spells, IsBadByte, IsInRange};
-ghost use Rattle.cv_decimal.specs.Reader.{decimal_of};
+ghost use Rattle.cv_number.specs.Spellings.{Spells, IsBadByte};
+ghost use Rattle.cv_decimal.specs.Ranges.{IsInRange};
+ghost use Rattle.cv_number.specs.Reader.{decimal_of};
 ghost use Rattle.cv_decimal.specs.Written.{written};
 
-mod fixed;
+mod error;
 mod kept;
-mod mark;
-mod place;
 mod plain;
 mod scan;
 mod written;
 
-pub use fixed::{DecimalError, Fixed};
+pub use cv_number::Fixed;
+pub use error::DecimalError;
 use std::alloc::{AllocError, Global};
 
 /// The value of a decimal, rounded half away from zero to whole millionths.
@@ -31,7 +32,7 @@ use std::alloc::{AllocError, Global};
 /// mantissa is digits, or digits and a point, or digits, a point and digits, or a point and digits. The
 /// exponent is `e` or `E`, an optional sign, and digits. Source: the decimals of `strtod` in ISO C (C17,
 /// 7.22.1.3), without white space in front, hexadecimals and infinities; the rounding is this project's own.
-#[tactic(auto, unfolding(crate::specs::Reader::decimal_of))]
+#[tactic(auto, unfolding(cv_number::specs::Reader::decimal_of))]
 pub fn read(text: &[u8]) -> Result<Fixed, DecimalError>
     ensures found { IfOk result (Spells text.now) }
     ensures only { (v : Fixed) → Spells text.now v → result ≡ Ok v }

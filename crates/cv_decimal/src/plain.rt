@@ -3,10 +3,10 @@
 ghost use Rattle.std.specs.Prelude.{◌≡◌, ◌+◌, ◌^◌, ◌<◌, length, Ok, IfSome, is_some};
 ghost use Rattle.cv_decimal.specs.Kept.{nothing_kept, answer_at};
 ghost use Rattle.cv_decimal.specs.Plain.{is_plain, is_plain_size, is_plain_rest};
-ghost use Rattle.cv_decimal.specs.declared.place.Place.{Place};
+ghost use Rattle.cv_number.specs.declared.place.Place.{Place};
 
-use crate::fixed::Fixed;
 use crate::kept::Kept;
+use cv_number::Fixed;
 
 /// The value of a decimal without an exponent, a `+` or a point in front; `None` for any other text.
 pub fn plain(text: &[u8]) -> Option<Fixed>

@@ -2,11 +2,9 @@
 ghost use Rattle.std.specs.Prelude.{◌≡◌};
 ghost use Rattle.cv_decimal.specs.Kept.{nothing_kept, answer_at};
 
-use crate::fixed::Fixed;
 use crate::kept::Kept;
-use crate::mark::Mark;
-use crate::place::Place;
 use crate::plain::plain;
+use cv_number::{Fixed, Mark, Place};
 
 /// The value of a text, or how many bytes stand before the first that can't.
 pub fn scan(text: &[u8]) -> Result<Fixed, u64>

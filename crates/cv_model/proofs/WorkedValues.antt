@@ -2,11 +2,12 @@
 use Rattle.std.specs.Prelude.{◌≡◌, ℕ, ◌*◌, true, false, pos, List, [], ◌∷◌, refl}
 use Rattle.cv_model.specs.declared.colour.Rgb.{Rgb}
 use Rattle.cv_model.specs.declared.colour.Rgba.{Rgba}
-use Rattle.cv_model.specs.declared.colour.Blend.TheVariants.{Normal}
+use Rattle.cv_model.specs.declared.blend.Blend.TheVariants.{Normal}
 use Rattle.cv_model.specs.Positions.{Position}
 use Rattle.cv_model.specs.Views.{PixelGrid, centre_of, grid_of}
 use Rattle.cv_model.specs.Polygons.{is_inside}
-use Rattle.cv_model.specs.Colours.{over, merge, opaque}
+use Rattle.cv_model.specs.Colours.{over, opaque}
+use Rattle.cv_model.specs.Blends.{merge}
 
 abbrev rgb : ℕ → ℕ → ℕ → Rgb
 rgb r g b = record { r = r; g = g; b = b }

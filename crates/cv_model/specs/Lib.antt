@@ -1,14 +1,25 @@
 -- The definitions of the map, in reading order.
-pub mod Rounding
 pub mod Positions
 pub mod Views
+pub mod Pans
 pub mod Polygons
 pub mod Pens
 pub mod Markers
 pub mod Geometries
 pub mod Features
+pub mod Grids
 pub mod Colours
+pub mod Blends
 pub mod Symbols
+pub mod Ramps
+pub mod Classes
+pub mod Styles
+pub mod Scales
 pub mod Layers
+pub mod Texts
 pub mod Rasters
 pub mod Pictures
+pub mod Paintings
+pub mod ProjectFiles
+pub mod Edits
+pub mod Laws

@@ -1,10 +1,22 @@
 -- What a marker covers: the positions round a point, by its shape.
 --
 -- Source: this project's own shapes, each with its border.
-use Rattle.std.specs.Prelude.{◌+◌, max, Bool, ℤ, pos, ◌+ℤ◌, ◌-ℤ◌, ◌*ℤ◌, int_le, unsigned_abs}
+use Rattle.std.specs.Prelude.{ℕ, ◌≤◌, ◌+◌, max, Bool, ℤ, pos, ◌+ℤ◌, ◌-ℤ◌, ◌*ℤ◌, int_le, unsigned_abs}
+use Rattle.cv_model.specs.declared.colour.Rgba.{Rgba}
 use Rattle.cv_model.specs.declared.shape.Shape.{Shape}
 use Rattle.cv_model.specs.declared.shape.Shape.TheVariants.{Square, Diamond, Circle}
 use Rattle.cv_model.specs.Positions.{Position, doubled}
+
+-- a marker: its shape, the colour that it lays, and its side, diagonal or diameter in pixels
+pub record MarkerParts : Type 0 where
+  pub shape : Shape
+  pub colour : Rgba
+  pub size : ℕ
+
+-- a marker has 1 to 256 pixels
+pub record IsMarker (m : MarkerParts) : Type 0 where
+  pub least : 1 ≤ m.size
+  pub most : m.size ≤ 256
 
 -- dx and dy away from its middle lies within a shape of radius r
 abbrev pub covers : Shape → ℤ → ℤ → ℤ → Bool

@@ -1,11 +1,23 @@
 -- What a pen hits: a segment that meets the square round a position.
 --
 -- Source: this project's own pen, an upright square whose middle follows the line.
-use Rattle.std.specs.Prelude.{◌^◌, Bool, not, ◌&&◌, ℤ, pos, ◌+ℤ◌, ◌-ℤ◌, ◌*ℤ◌, ◌≤ℤ◌, int_lt, int_le, List, [], ◌∷◌}
+use Rattle.std.specs.Prelude.{ℕ, ◌^◌, ◌≤◌, Bool, not, ◌&&◌, ℤ, pos, ◌+ℤ◌, ◌-ℤ◌, ◌*ℤ◌, ◌≤ℤ◌, int_lt, int_le}
+use Rattle.std.specs.Prelude.{List, [], ◌∷◌}
 use Rattle.std.specs.Int.{int_max, int_min}
 use Rattle.std.specs.List.{list_all}
+use Rattle.cv_model.specs.declared.colour.Rgba.{Rgba}
 use Rattle.cv_model.specs.Positions.{Position, doubled}
 use Rattle.cv_model.specs.Polygons.{edges_from}
+
+-- a pen: the colour that it lays and its side in pixels
+pub record PenParts : Type 0 where
+  pub colour : Rgba
+  pub width : ℕ
+
+-- a pen is 1 to 64 pixels wide
+pub record IsPen (p : PenParts) : Type 0 where
+  pub least : 1 ≤ p.width
+  pub most : p.width ≤ 64
 
 -- half the width of a pen or of a marker is from 0 to 2^60 doubled millionths
 abbrev pub IsRadius : ℤ → Type 0
@@ -28,9 +40,11 @@ corners r p =
 -- the positions don't all lie left of the line from a to b, nor all right of it
 abbrev pub straddles : Position → Position → List Position → Bool
 straddles a b ps =
-    not (list_all (λ q. int_lt (pos 0) (side_of a b q)) ps) && not (list_all (λ q. int_lt (side_of a b q) (pos 0)) ps)
+    not (list_all (λ q. int_lt (pos 0) (side_of a b q)) ps) && not (list_all (λ q. int_lt (side_of a b q)
+    (pos 0)) ps)
 
--- the segment from a to b meets the square of half-side r round p: their boxes overlap, and the square straddles the line
+-- the segment from a to b meets the square of half-side r round p: their boxes overlap, and the square
+-- straddles the line
 unfoldable pub meets : ℤ → Position → Position → Position → Bool
 meets r p a b = overlaps r p.x a.x b.x && overlaps r p.y a.y b.y && straddles a b (corners r p)
 

@@ -1,4 +1,4 @@
-//! Colours and blend modes.
+//! Colours.
 
 /// An opaque colour. Each channel is from 0 to 255.
 #[derive(Clone, Copy, Debug, PartialEq, Eq)]
@@ -22,13 +22,4 @@ pub struct Rgba {
     pub b: u8,
     /// Alpha.
     pub a: u8,
-}
-
-/// How a layer's colour is blended onto what lies below it.
-///
-/// Source: the blend modes of W3C Compositing and Blending Level 1, so far `normal` alone.
-#[derive(Clone, Copy, Debug, PartialEq, Eq)]
-pub enum Blend {
-    /// `normal`: the source's channel, whatever lies below it.
-    Normal,
 }

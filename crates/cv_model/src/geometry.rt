@@ -3,7 +3,7 @@
 ghost use Rattle.std.specs.Prelude.{◌≡◌, length, sum_by};
 ghost use Rattle.cv_model.specs.Geometries.{points_of, vertices_of, counted};
 
-use crate::point::{Point, Polygon};
+use crate::position::{Point, Polygon};
 use crate::sequence::Sequence;
 use std::marker::Model;
 

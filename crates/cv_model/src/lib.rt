@@ -1,38 +1,57 @@
 //! The plain types of the map and the definitions that all contracts cite.
 //!
-//! Contract: each type keeps what its definition says, and is seen as a list, a number or a record of its parts.
-//! Definitions: `Rounding`, `Positions`, `Views`, `Polygons`, `Pens`, `Markers`, `Geometries`, `Features`, `Colours`,
-//! `Symbols`, `Layers`, `Rasters`, `Pictures`, in this order. Only `with_room`, `push`, `put` and `Text::of` take
-//! memory; no handle is needed.
+//! Contract: each type keeps what its definition says, and is seen as a list, a number or a record of its
+//! parts. Definitions, from positions to the picture of a project and to its edits: see `specs/Lib.antt`
+//! for their order. Only `with_room`, `push`, `put` and `Text::of` take memory; no handle is needed.
 #![tactic(auto)]
 
-pub mod colour;
-pub mod delimiter;
-pub mod extent;
-pub mod feature;
-pub mod geometry;
-pub mod picture;
-pub mod point;
-pub mod sequence;
-pub mod shape;
-pub mod symbol;
-pub mod text;
-pub mod view;
+mod blend;
+mod classes;
+mod colour;
+mod delimiter;
+mod edit;
+mod extent;
+mod feature;
+mod geometry;
+mod grid;
+pub mod laws;
+mod layer;
+mod position;
+mod project;
+mod ramp;
+mod raster;
+mod sequence;
+mod shape;
+mod span;
+mod style;
+mod symbol;
+mod text;
+mod view;
 
-pub use colour::{Blend, Rgb, Rgba};
+pub use blend::Blend;
+pub use classes::Classes;
+pub use colour::{Rgb, Rgba};
 pub use delimiter::Delimiter;
+pub use edit::{Edit, EditError};
 pub use extent::Extent;
 pub use feature::{Feature, FeatureList, Note, Room, Values};
 pub use geometry::{Geometry, Line, WktError};
-pub use picture::{Picture, RgbList};
-pub use point::{Point, Point2, Polygon, Ring};
+pub use grid::{Cell, CellList, Grid};
+pub use layer::{Join, LayerData, LayerFrame, NewLayer, Scales};
+pub use position::{Point, Point2, Polygon, Ring};
+pub use project::{CanvasFile, CanvasList, CanvasSpec, LayerFile, LayerList, ProjectFile, Source};
+pub use ramp::{Ramp, RampKind, Stop, StopList};
+pub use raster::{Image, Picture, Pixels, RgbList, RgbaList};
 pub use sequence::Sequence;
 pub use shape::Shape;
+pub use span::{Span, Spans};
+pub use style::{Class, ClassList, Field, Range, RangeList, Style};
 pub use symbol::{Marker, Pen, Symbol};
 pub use text::Text;
 pub use view::View;
 
-/// The answer of a call that has got no memory. It is the one answer whose cause contracts leave out, since no caller can know it.
+/// The answer of a call that has got no memory. It is the one answer whose cause contracts leave out, since
+/// no caller can know it.
 pub type NoMemory = std::alloc::AllocError;
 
 #[cfg(test)]

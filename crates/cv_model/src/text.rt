@@ -1,6 +1,6 @@
 //! A short text, such as a word of a command or a name.
 
-ghost use Rattle.std.specs.Prelude.{◌≡◌, IfOk};
+ghost use Rattle.std.specs.Prelude.{◌≡◌, IfOk, IsUtf8};
 
 use crate::NoMemory;
 use std::alloc::Global;
@@ -31,7 +31,8 @@ impl Text {
 
     /// The text itself.
     pub fn as_str(&self) -> &str
-        ensures { result.now ≡ self.now }
+        ensures text { result.now ≡ self.now }
+        ensures utf8 { IsUtf8 self.now }
     {
         self.text.as_str()
     }

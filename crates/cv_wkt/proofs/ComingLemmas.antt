@@ -2,7 +2,7 @@
 use Rattle.std.proofs.Common.{◌≡◌, ℕ, zero, suc, ℤ, Bool, true, false, List, [], ◌∷◌, ◌++◌, Option, Some}
 use Rattle.std.proofs.Common.{None, IsSomeAnd, ◌⊎◌, inl, inr, refl, sym, ap, ◌∙◌, append-nil}
 use Rattle.cv_model.specs.Geometries.{GeometryLists}
-use Rattle.cv_decimal.specs.declared.fixed.Fixed.{Fixed}
+use Rattle.cv_number.specs.declared.fixed.Fixed.{Fixed}
 use Rattle.cv_wkt.specs.declared.kind.Kind.{Kind}
 use Rattle.cv_wkt.specs.declared.kind.Kind.TheVariants.{Close, Comma, Semicolon, Equals, Tag, Number}
 use Rattle.cv_wkt.specs.declared.place.Frame.{Frame}

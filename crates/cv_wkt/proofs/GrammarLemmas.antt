@@ -1,13 +1,13 @@
 -- The machine reads what may come behind each of its states, and from the start the grammar.
 use Rattle.std.proofs.Common.{◌≡◌, ◌↔◌, ℕ, zero, suc, ℤ, Bool, true, false, List, [], ◌∷◌, ◌++◌, map, Some}
 use Rattle.std.proofs.Common.{None, IsSomeAnd, inl, inr, refl, sym, ap, subst, ◌∙◌, append_assoc, append-nil}
-use Rattle.cv_decimal.specs.Reader.{decimal_of}
+use Rattle.cv_number.specs.Reader.{decimal_of}
 use Rattle.cv_model.specs.Geometries.{GeometryLists}
 use Rattle.cv_reading.specs.Machines.{run}
 use Rattle.cv_reading.specs.Readings.{Reads, IsReading}
 use Rattle.cv_reading.proofs.ReadingLemmas.{is_reading, same_reading}
-use Rattle.cv_decimal.specs.declared.fixed.Fixed.{Fixed}
-use Rattle.cv_decimal.specs.declared.fixed.Fixed.TheVariants.{Value}
+use Rattle.cv_number.specs.declared.fixed.Fixed.{Fixed}
+use Rattle.cv_number.specs.declared.fixed.Fixed.TheVariants.{Value}
 use Rattle.cv_wkt.specs.declared.kind.Word.TheVariants.{Point}
 use Rattle.cv_wkt.specs.declared.kind.Kind.{Kind}
 use Rattle.cv_wkt.specs.declared.kind.Kind.TheVariants.{Open, Comma, Semicolon, Equals, Srid, Empty, Tag}

@@ -9,7 +9,7 @@ use Rattle.std.proofs.Common.{cond}
 use Rattle.cv_reading.specs.Machines.{after}
 use Rattle.cv_reading.specs.Watches.{IsUnlimited}
 use Rattle.cv_reading.proofs.MachineLemmas.{after_push, kept_along}
-use Rattle.cv_decimal.specs.declared.fixed.Fixed.TheVariants.{Value}
+use Rattle.cv_number.specs.declared.fixed.Fixed.TheVariants.{Value}
 use Rattle.cv_wkt.specs.declared.kind.Word.{Word}
 use Rattle.cv_wkt.specs.declared.kind.Word.TheVariants.{Point, LineString, Polygon, MultiPoint}
 use Rattle.cv_wkt.specs.declared.kind.Word.TheVariants.{MultiLineString, MultiPolygon, Collection}

@@ -2,14 +2,14 @@
 use Rattle.std.proofs.Common.{◌≡◌, ℕ, zero, suc, ◌<◌, ℤ, nat_le, Bool, true, false, if◌then◌else◌, List, []}
 use Rattle.std.proofs.Common.{◌∷◌, ◌++◌, length, take, drop, slice_get, codes, Option, Some, None, IsSome}
 use Rattle.std.proofs.Common.{option_and_then, refl, sym, ap, subst, ◌∙◌, arith}
-use Rattle.cv_decimal.specs.Reader.{decimal_of}
+use Rattle.cv_number.specs.Reader.{decimal_of}
 use Rattle.cv_reading.specs.Machines.{after, IsStuck}
 use Rattle.cv_reading.specs.Readings.{Begins, IsFirstWrong}
 use Rattle.cv_reading.specs.Watches.{RefusesFor, StopsFor, IsFirstStop}
 use Rattle.cv_reading.proofs.ReadingLemmas.{begins_behind, leads_begun}
 use Rattle.cv_reading.proofs.MachineLemmas.{after_push}
 use Rattle.cv_reading.proofs.WatchLemmas.{stuck_at_stop}
-use Rattle.cv_decimal.specs.declared.fixed.Fixed.TheVariants.{Value, High, Low, NotNumber}
+use Rattle.cv_number.specs.declared.fixed.Fixed.TheVariants.{Value, High, Low, NotNumber}
 use Rattle.cv_wkt.specs.declared.kind.Word.TheVariants.{Point, Collection}
 use Rattle.cv_wkt.specs.declared.kind.Kind.{Kind}
 use Rattle.cv_wkt.specs.declared.kind.Kind.TheVariants.{Open, Close, Comma, Semicolon, Equals, Srid, Empty}

@@ -12,7 +12,7 @@ use Rattle.cv_wkt.specs.Grammar.{many}
 use Rattle.std.proofs.Common.{Ok, Err, ◌∙◌}
 use Rattle.cv_model.specs.declared.geometry.WktError.{WktError}
 use Rattle.cv_reading.specs.Watches.{watched_end}
-use Rattle.cv_decimal.specs.declared.fixed.Fixed.TheVariants.{Value}
+use Rattle.cv_number.specs.declared.fixed.Fixed.TheVariants.{Value}
 use Rattle.cv_wkt.specs.declared.place.Sort.TheVariants.{Geometry}
 use Rattle.cv_wkt.specs.declared.place.Now.{Now}
 use Rattle.cv_wkt.specs.declared.place.Now.TheVariants.{Start, Begin, BehindX}

@@ -2,7 +2,7 @@
 use Rattle.std.proofs.Common.{◌≡◌, ℕ, ℤ, Bool, true, false, List, [], ◌∷◌, ◌++◌, Some, None, IsSomeAnd, ◌⊎◌}
 use Rattle.std.proofs.Common.{inl, inr, refl, sym, ap, subst, ◌∙◌, append_assoc}
 use Rattle.cv_model.specs.Geometries.{GeometryLists}
-use Rattle.cv_decimal.specs.declared.fixed.Fixed.TheVariants.{Value}
+use Rattle.cv_number.specs.declared.fixed.Fixed.TheVariants.{Value}
 use Rattle.cv_wkt.specs.declared.kind.Word.{Word}
 use Rattle.cv_wkt.specs.declared.kind.Kind.{Kind}
 use Rattle.cv_wkt.specs.declared.kind.Kind.TheVariants.{Open, Close, Comma, Empty, Tag, Name, Number}

@@ -14,8 +14,8 @@
 use Rattle.std.specs.Prelude.{◌≡◌, ℕ, ℤ, Bool, true, false, List, [], ◌∷◌, ◌++◌, map}
 use Rattle.cv_model.specs.Positions.{Position}
 use Rattle.cv_model.specs.Geometries.{GeometryLists}
-use Rattle.cv_decimal.specs.declared.fixed.Fixed.{Fixed}
-use Rattle.cv_decimal.specs.declared.fixed.Fixed.TheVariants.{Value}
+use Rattle.cv_number.specs.declared.fixed.Fixed.{Fixed}
+use Rattle.cv_number.specs.declared.fixed.Fixed.TheVariants.{Value}
 use Rattle.cv_wkt.specs.declared.kind.Word.{Word}
 use Rattle.cv_wkt.specs.declared.kind.Word.TheVariants.{Point, LineString, Polygon, MultiPoint}
 use Rattle.cv_wkt.specs.declared.kind.Word.TheVariants.{MultiLineString, MultiPolygon, Collection}

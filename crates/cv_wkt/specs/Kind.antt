@@ -8,9 +8,9 @@ use Rattle.std.specs.Option.{option_or}
 use Rattle.std.specs.Str.{str_eq_ignore_ascii_case}
 use Rattle.cv_reading.specs.Space.{is_space}
 use Rattle.cv_reading.specs.Tokens.{ByteKind, White, Single, Word, Token, cut}
-use Rattle.cv_decimal.specs.declared.fixed.Fixed.{Fixed}
-use Rattle.cv_decimal.specs.Spellings.{IsInRange}
-use Rattle.cv_decimal.specs.Reader.{decimal_of}
+use Rattle.cv_number.specs.declared.fixed.Fixed.{Fixed}
+use Rattle.cv_decimal.specs.Ranges.{IsInRange}
+use Rattle.cv_number.specs.Reader.{decimal_of}
 use Rattle.cv_wkt.specs.declared.kind.Word.{Word as Title}
 use Rattle.cv_wkt.specs.declared.kind.Word.TheVariants.{Point, LineString, Polygon, MultiPoint}
 use Rattle.cv_wkt.specs.declared.kind.Word.TheVariants.{MultiLineString, MultiPolygon, Collection}

@@ -3,7 +3,7 @@ use Rattle.std.specs.Prelude.{◌≡◌, ℕ, suc, ◌+◌, ℤ, Bool, true, fal
 use Rattle.cv_model.specs.Positions.{IsCoordinate}
 use Rattle.cv_model.specs.Geometries.{GeometryLists}
 use Rattle.cv_reading.specs.Machines.{Machine}
-use Rattle.cv_decimal.specs.declared.fixed.Fixed.TheVariants.{Value}
+use Rattle.cv_number.specs.declared.fixed.Fixed.TheVariants.{Value}
 use Rattle.cv_wkt.specs.declared.kind.Word.{Word}
 use Rattle.cv_wkt.specs.declared.kind.Kind.{Kind}
 use Rattle.cv_wkt.specs.declared.kind.Kind.TheVariants.{Open, Close, Comma, Semicolon, Equals, Srid, Empty}

@@ -5,7 +5,7 @@ use Rattle.cv_model.specs.Geometries.{GeometryLists}
 use Rattle.cv_model.specs.declared.geometry.WktError.{WktError}
 use Rattle.cv_reading.specs.Tokens.{Token}
 use Rattle.cv_reading.specs.Watches.{Watch, Stop, StopAt, watched}
-use Rattle.cv_decimal.specs.declared.fixed.Fixed.TheVariants.{Value, High, Low}
+use Rattle.cv_number.specs.declared.fixed.Fixed.TheVariants.{Value, High, Low}
 use Rattle.cv_wkt.specs.declared.kind.Word.TheVariants.{Collection}
 use Rattle.cv_wkt.specs.declared.kind.Kind.{Kind}
 use Rattle.cv_wkt.specs.declared.kind.Kind.TheVariants.{Name, Curve, Number}

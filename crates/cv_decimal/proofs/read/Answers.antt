@@ -1,7 +1,7 @@
 -- The loop's answer `same` is the machine's, and so says what `IsReading` says of it.
 use Rattle.std.proofs.Common.{◌≡◌, ℕ, false, ◌==◌, List, [], length, Ok, Err, sym, ap, ◌∙◌, arith}
 use Rattle.std.specs.Result.{result_ok}
-use Rattle.cv_decimal.specs.declared.fixed.DecimalError.TheVariants.{BadByte}
+use Rattle.cv_decimal.specs.declared.error.DecimalError.TheVariants.{BadByte}
 use Rattle.cv_decimal.proofs.ValueLemmas.{spelt_in}
 use Rattle.cv_decimal.proofs.ScanLemmas.{keeping_reads, keeping_exact}
 use Rattle.cv_decimal.proofs.read.Goals as goal

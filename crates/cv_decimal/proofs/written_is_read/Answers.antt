@@ -1,4 +1,4 @@
-use Rattle.cv_decimal.specs.declared.fixed.Fixed.TheVariants.{Value}
+use Rattle.cv_number.specs.declared.fixed.Fixed.TheVariants.{Value}
 use Rattle.cv_decimal.specs.Written.{written}
 use Rattle.cv_decimal.proofs.ValueLemmas.{decimal_of_spelt}
 use Rattle.cv_decimal.proofs.WrittenLemmas.{written_spelt}

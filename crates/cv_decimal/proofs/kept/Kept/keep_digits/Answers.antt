@@ -1,5 +1,5 @@
 use Rattle.std.proofs.Common.{refl, arith}
-use Rattle.cv_decimal.specs.declared.place.Place.TheVariants.{Start, Signed}
+use Rattle.cv_number.specs.declared.place.Place.TheVariants.{Start, Signed}
 use Rattle.cv_decimal.proofs.DigitLemmas.{digit_more, front_at_other, goes_first}
 use Rattle.cv_decimal.proofs.kept.Kept.keep_digits.Goals as goal
 
