@@ -61,12 +61,12 @@ fn fill<R: Read + Drop>(file: R, most: u64, into: &mut Vec<u8>) -> Result<(), Br
             into.truncate(most as usize);
             Ok(())
         }
-        Err(error) => Err(broken(error.kind())),
+        Err(error) => Err(unread(error.kind())),
     }
 }
 
 /// Why a read failed.
-fn broken(kind: ErrorKind) -> Broken {
+fn unread(kind: ErrorKind) -> Broken {
     match kind {
         ErrorKind::OutOfMemory => Broken::NoMemory,
         _ => Broken::Read,

@@ -1,6 +1,6 @@
 //! Standard output, or another writer, as a sink. It counts each failure of the writer.
 
-ghost use Rattle.std.specs.Prelude.{◌≡◌, true, is_some, IsTrue, unwrap_or};
+ghost use Rattle.std.specs.Prelude.{◌≡◌, true, false, is_some, IsTrue, unwrap_or};
 
 use cv_outside::{Sink, SinkEnd};
 use std::io::Write;
@@ -37,6 +37,13 @@ impl<W: Write + Drop> Output<W> {
             faults: 0,
             is_told: true,
         }
+    }
+
+    /// The writer.
+    pub fn writer(&self) -> &W
+        ensures { result.now ≡ self.now.to }
+    {
+        &self.to
     }
 }
 
