@@ -31,7 +31,8 @@ impl<'a, R: Files> FileShelf<'a, R> {
     fn refuse(&mut self, end: ReadEnd) -> ReadEnd
         ensures faults { self.old.faults ≤ self.new.faults }
         ensures misses { self.old.misses ≤ self.new.misses }
-        ensures cause { ReadCause result (Rose self.old.faults self.new.faults) (Rose self.old.misses self.new.misses) }
+        ensures cause { ReadCause result (Rose self.old.faults self.new.faults)
+            (Rose self.old.misses self.new.misses) }
         ensures end { result ≡ end }
     {
         match end {

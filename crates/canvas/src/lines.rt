@@ -57,7 +57,8 @@ pub fn tell<W: Write>(end: &End, words: &[Text], to: &mut W) -> io::Result<()>
     second_line(end, words, to)
 }
 
-/// Writes the lines of an end of these words, as far as the writer takes them, and gives the program's status.
+/// Writes the lines of an end of these words, as far as the writer takes them, and gives the program's
+/// status.
 pub fn conclude<W: Write>(end: &End, words: &[Text], to: &mut W) -> ExitCode
     ensures { exit_status result ≡ status_of end.now }
 {

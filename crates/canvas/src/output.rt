@@ -5,7 +5,8 @@ ghost use Rattle.std.specs.Prelude.{◌≡◌, true, false, is_some, IsTrue, unw
 use cv_outside::{Sink, SinkEnd};
 use std::io::Write;
 
-/// A writer as a sink. It tells what it took only where it was made of a writer that says which bytes it holds.
+/// A writer as a sink. It tells what it took only where it was made of a writer that says which bytes it
+/// holds.
 #[derive(Drop)]
 pub struct Output<W: Write> {
     to: W,

@@ -34,11 +34,11 @@ use std::alloc::Global;
 /// The grid of a text with at most `room` cells, or why it is none.
 ///
 /// The tokens of a text are the runs of bytes that aren't white space; a byte order mark in front is taken
-/// away. Pairs of a word and its value are the header, in any order and case: `ncols`, `nrows`, `xllcorner` or
-/// `xllcenter`, `yllcorner` or `yllcenter`, `cellsize` or `dx` and `dy`, and perhaps `nodata_value`, which else
-/// is -9999. Behind it stands a decimal for each cell, the northernmost row first and each row from the west.
-/// Numbers beyond 10^15 millionths count as that limit. A cell that is `nan` or equals the no-data value has no
-/// data.
+/// away. Pairs of a word and its value are the header, in any order and case: `ncols`, `nrows`, `xllcorner`
+/// or `xllcenter`, `yllcorner` or `yllcenter`, `cellsize` or `dx` and `dy`, and perhaps `nodata_value`,
+/// which else is -9999. Behind it stands a decimal for each cell, the northernmost row first and each row
+/// from the west. Numbers beyond 10^15 millionths count as that limit. A cell that is `nan` or equals the
+/// no-data value has no data.
 /// Source: the ASCII grid after ESRI's, in outline; each rule is this project's own.
 pub fn read(alloc: Global, bytes: &[u8], room: u32) -> Result<Grid, GridError>
     requires room { room ≤ 16000000 }

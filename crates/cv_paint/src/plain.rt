@@ -32,7 +32,7 @@ const CLEAR: Rgba = Rgba {
 };
 
 /// The pixel of a layer at the centre `p`: the strokes of its features in order.
-#[tactic(auto, using(crate::proofs::LayLemmas::laid_on_more))]
+#[tactic(auto, using(crate::proofs::LayLemmas::laid_more))]
 fn layer_pixel(features: &[Feature], symbol: &Symbol, view: &View, p: Point2) -> Rgba
     ensures { result ≡ laid (flat_map
         (λ (feature : Feature). strokes (Some symbol.now) view.now p feature.geometry) features.now) }

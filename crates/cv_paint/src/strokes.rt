@@ -21,7 +21,7 @@ pub fn with_feature(pixel: Rgba, feature: &Feature, symbol: &Symbol, view: &View
 }
 
 /// A pixel with the fill, the pen and the marker of a geometry on it, in this order.
-#[tactic(auto, using(crate::proofs::LayLemmas::laid_on_more), unfolding(cv_model::specs::Pictures::strokes_of))]
+#[tactic(auto, using(crate::proofs::LayLemmas::laid_more), unfolding(cv_model::specs::Pictures::strokes_of))]
 fn with_strokes(pixel: Rgba, geometry: &Geometry, symbol: &Symbol, view: &View, p: Point2) -> Rgba
     ensures { result ≡ laid_on pixel (strokes_of symbol.now view.now p geometry.now) }
 {
@@ -51,7 +51,7 @@ fn with_pen(pixel: Rgba, geometry: &Geometry, pen: Option<Pen>, view: &View, p: 
 }
 
 /// A pixel with a colour on it where the pen of half-width `r` hits rings, and once more where it hits lines.
-#[tactic(auto, using(crate::proofs::LayLemmas::laid_on_more))]
+#[tactic(auto, using(crate::proofs::LayLemmas::laid_more))]
 fn with_paths(pixel: Rgba, geometry: &Geometry, colour: Rgba, r: i64, p: Point2) -> Rgba
     requires { IsRadius r }
     ensures { result ≡ laid_on pixel

@@ -22,8 +22,8 @@ pub(crate) fn draw<H: Held>(base: &Base<H>, seat: &mut Place<H>) -> u64
     base.shared.fetch_add::<Draws>(seat, 1, 1)
 }
 
-/// Waits for the ticket's turn and takes the value. It looks and yields a few times, and then sleeps between looks
-/// until a turn ends.
+/// Waits for the ticket's turn and takes the value. It looks and yields a few times, and then sleeps
+/// between looks until a turn ends.
 pub(crate) fn take<H: Held, R: Wait>(rt: &R, base: &Base<H>, seat: &mut Place<H>, ticket: u64) -> H
     requires table { IsSeatOf base.now.shared.table_id seat.old }
     requires waits { IsWaiting ticket seat.old.me }
@@ -46,7 +46,8 @@ pub(crate) fn take<H: Held, R: Wait>(rt: &R, base: &Base<H>, seat: &mut Place<H>
     unreachable!()
 }
 
-/// Puts the value into the slot and counts its new entry, if there is one. The answer is the length of the list.
+/// Puts the value into the slot and counts its new entry, if there is one. The answer is the length of the
+/// list.
 fn lay_down<H: Held>(base: &Base<H>, seat: &mut Place<H>, held: H, before: u64) -> u64
     requires table { IsSeatOf base.now.shared.table_id seat.old }
     requires turn { IsInTurn seat.old.me × (before ≡ length seat.old.me.0.taken) }
@@ -74,8 +75,8 @@ fn wake<H: Held>(base: &Base<H>, served: u64)
     }
 }
 
-/// Puts the value back, counts its new entry if there is one, and serves the next ticket. The answer is the length of
-/// the list.
+/// Puts the value back, counts its new entry if there is one, and serves the next ticket. The answer is the
+/// length of the list.
 pub(crate) fn put_back<H: Held>(base: &Base<H>, seat: &mut Place<H>, held: H, before: u64) -> u64
     requires table { IsSeatOf base.now.shared.table_id seat.old }
     requires turn { IsInTurn seat.old.me × (before ≡ length seat.old.me.0.taken) }

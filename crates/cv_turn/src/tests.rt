@@ -91,11 +91,13 @@ fn work<R: Threads + Wait + Sync>(
     let (mut pass, other) = thread::join(
         rt,
         move || -> Pass<Diary>
-            requires { IsSync R.row × (pass.table ≡ turn.now.table) × (pass.turn ≡ None) × (length pass.own ≡ count - half) × (half < count) }
+            requires { IsSync R.row × (pass.table ≡ turn.now.table) × (pass.turn ≡ None)
+                × (length pass.own ≡ count - half) × (half < count) }
             ensures { IsSamePass pass result }
         { work(rt, turn, pass, count - half) },
         move || -> Pass<Diary>
-            requires { IsSync R.row × (other.table ≡ turn.now.table) × (other.turn ≡ None) × (length other.own ≡ half) × (0 < half) }
+            requires { IsSync R.row × (other.table ≡ turn.now.table) × (other.turn ≡ None)
+                × (length other.own ≡ half) × (0 < half) }
             ensures { IsSamePass other result }
         { work(rt, turn, other, half) },
     );
@@ -107,7 +109,8 @@ fn is_sent<T: Send>() {}
 
 fn is_shared<T: Sync>() {}
 
-/// Where a value may go to another thread, so may its turn, which threads share, the passes, the notes and the guards.
+/// Where a value may go to another thread, so may its turn, which threads share, the passes, the notes and
+/// the guards.
 fn goes_to_threads<H: Held + Send>() {
     is_sent::<Turn<H>>();
     is_shared::<Turn<H>>();

@@ -90,8 +90,8 @@ impl<H: Held> Turn<H> {
         pass.length = put_back(&self.base, &mut pass.seat, held, before);
     }
 
-    /// Hands over the last `callers` numbers of the pass to a new one, which has seen what this one has. It is never
-    /// refused, since it takes no memory here.
+    /// Hands over the last `callers` numbers of the pass to a new one, which has seen what this one has. It
+    /// is never refused, since it takes no memory here.
     pub fn split(&self, pass: &mut Pass<H>, callers: u32) -> Result<Pass<H>, NoMemory>
         requires own { pass.old.table ≡ self.now.table }
         requires free { pass.old.turn ≡ None }
@@ -129,7 +129,8 @@ impl<H: Held> Turn<H> {
         pass.length = pass.length.max(length);
     }
 
-    /// A note of what the pass has seen, for another pass. It is never refused, since it takes no memory here.
+    /// A note of what the pass has seen, for another pass. It is never refused, since it takes no memory
+    /// here.
     pub fn note(&self, pass: &mut Pass<H>) -> Result<Note<H>, NoMemory>
         requires own { pass.old.table ≡ self.now.table }
         requires free { pass.old.turn ≡ None }
