@@ -261,7 +261,16 @@ def public_items(crate):
             found[key] = known._replace(cites=known.cites | made.cites)
         else:
             found[key] = made._replace(cites=made.cites | (known.cites if known else frozenset()))
+    for item in methods_elsewhere(source, {key[2] for key, item in found.items() if item.kind == "type"}):
+        path = f"{item.parent}::{item.name}"
+        found.setdefault((True, item.parent, item.name), Item(crate, path, "method", item.labels, item.cites))
     return tuple(found.values())
+
+
+def methods_elsewhere(source, types):
+    """The public methods of these types, also of `impl` blocks in other files than the type's."""
+    for path in sorted(source.rglob("*.rt")):
+        yield from (item for item in read_file(path) if item.kind == "method" and item.parent in types)
 
 
 @functools.cache
@@ -355,6 +364,18 @@ def with_names(crate, module, lines, starts):
         text = "\n".join(line for line in lines[number:stop] if not line.lstrip().startswith("--"))
         found = frozenset(cited(text, names, others)) - {own[name]}
         yield Described(own[name], sentence, found)
+
+
+def fields(definition):
+    """The fields of a record, and those of the records of its module that their types name."""
+    path = TOP / "crates" / definition.crate / "specs" / f"{definition.module}.antt"
+    bodies = dict(re.findall(r"^pub record (\w+)[^\n]*\n((?:  .*\n)*)", path.read_text(), re.M))
+    found, todo = set(), [definition.name]
+    while todo:
+        body = bodies.pop(todo.pop(), "")
+        found |= set(re.findall(r"^  pub (\w+) :", body, re.M))
+        todo += [name for name in bodies if name in WORD.findall(body)]
+    return found
 
 
 def definitions():

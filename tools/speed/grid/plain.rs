@@ -26,7 +26,11 @@ fn number(token: &[u8]) -> Option<i64> {
     let (mut value, mut places, mut point, mut any) = (0i64, 0u32, false, false);
     for byte in digits {
         match byte {
-            b'0'..=b'9' if places < 6 => { value = value * 10 + i64::from(byte - b'0'); any = true; if point { places += 1; } }
+            b'0'..=b'9' if places < 6 => {
+                value = value * 10 + i64::from(byte - b'0');
+                any = true;
+                places += u32::from(point);
+            }
             b'.' if !point => point = true,
             _ => return None,
         }
