@@ -15,8 +15,8 @@ abbrev pub first_line : End → List ℕ
 first_line Done = []
 first_line end = text_of_end end ++ 10 ∷ []
 
--- a second line where it helps: the forms of the commands; the layer's name, and why its bytes were refused; the
--- name of the file that failed or isn't there
+-- a second line where it helps: the forms of the commands; the layer's name, and why its bytes were refused;
+-- the name of the file that failed or isn't there
 abbrev pub second_line : End → List (List ℕ) → List ℕ
 second_line Usage words = codes "quick <csv> <out> <w> <h> <xmin> <ymin> <xmax> <ymax> <rrggbb>" ++ 10 ∷ []
 second_line (BadData place error) words = word_at 1 words ++ (codes ": " ++ (text_of_data error ++ 10 ∷ []))

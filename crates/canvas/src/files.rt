@@ -1,6 +1,6 @@
 //! The real files, as a shelf and a tray. They tell nothing of content, and count each failure of the system.
 
-ghost use Rattle.std.specs.Prelude.{false, ◌≡◌, ◌≤◌, ◌↔◌, [], length, take, OnOk, IfSome};
+ghost use Rattle.std.specs.Prelude.{false, ◌≡◌, ◌≢◌, ◌≤◌, [], length, take, OnOk, IfSome};
 ghost use Rattle.cv_outside.specs.Counts.{Rose};
 ghost use Rattle.cv_outside.specs.Reads.{ReadCause};
 
@@ -31,8 +31,8 @@ impl<'a, R: Files> FileShelf<'a, R> {
     fn refuse(&mut self, end: ReadEnd) -> ReadEnd
         ensures faults { self.old.faults ≤ self.new.faults }
         ensures misses { self.old.misses ≤ self.new.misses }
-        ensures cause { ReadCause result (Rose self.old.faults self.new.faults)
-            (Rose self.old.misses self.new.misses) }
+        ensures cause { ReadCause result
+            (Rose self.old.faults self.new.faults) (Rose self.old.misses self.new.misses) }
         ensures end { result ≡ end }
     {
         match end {
@@ -76,7 +76,8 @@ fn unread(kind: ErrorKind) -> Broken {
 
 /// What an open that failed with this kind says of the file: it is absent only where none was found.
 fn unopened(kind: ErrorKind) -> ReadEnd
-    ensures { (result ≡ ReadEnd.Absent) ↔ (kind ≡ ErrorKind.NotFound) }
+    ensures absent { kind ≡ ErrorKind.NotFound → result ≡ ReadEnd.Absent }
+    ensures failed { kind ≢ ErrorKind.NotFound → result ≡ ReadEnd.Failed }
 {
     match kind {
         ErrorKind::NotFound => ReadEnd::Absent,

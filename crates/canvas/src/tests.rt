@@ -4,16 +4,14 @@ use crate::lines::conclude;
 use crate::output::Output;
 use crate::unread;
 use cv_dtext::TextError;
-use cv_outside::{Open, Unwritten, write_all};
+use cv_outside::{Unwritten, write_all};
 use cv_testing::{pixmap, words_of};
-use cv_top::{DataError, End, Which, run};
+use cv_top::{DataError, End, Which, run_once};
 use std::alloc::{AllocError, Global};
 use std::io::Write;
 use std::process::ExitCode;
 use std::rt::Files;
-use std::sync::Wait;
 use std::test::Fail;
-use std::thread::Threads;
 use std::{fs, io};
 
 const TEXT: &str =
@@ -22,16 +20,14 @@ const TEXT: &str =
 const INK: [u8; 3] = [1, 2, 3];
 
 // The command over the real files.
-fn play<R: Files + Print + AllocGlobal + Threads + Wait + Sync>(rt: &R, line: &str) -> End {
+fn play<R: Files + Print + AllocGlobal>(rt: &R, line: &str) -> End {
     match words_of(rt.alloc(), line) {
-        Ok(words) => run(
-            rt,
+        Ok(words) => run_once(
             rt.alloc(),
             words.as_slice(),
             &mut FileShelf::new(rt),
             &mut FileTray::new(rt),
             &mut Output::new(io::writer(rt)),
-            &Open,
         ),
         Err(_) => End::NoMemory,
     }

@@ -1,3 +1,3 @@
-pub mod Rises
+pub mod RiseLemmas
 pub mod SeenLemmas
-pub mod Taken
+pub mod TakenLemmas

@@ -1,6 +1,7 @@
--- The file that a read saw.
+-- The file that a read saw, and devices on which no call was made.
 use Rattle.std.proofs.Common.{◌≡◌, ◌+◌, ◌<◌, ◌≤◌, ℕ, Bool, true, false, List, length, take, option_map, Option, Some, None, IsTrue, refl, ap, arith}
 use Rattle.cv_outside.specs.declared.ends.Unread.TheVariants.{TooLong}
+use Rattle.cv_outside.specs.Seen.{TraySeen, SinkSeen, TrayStands, SinkStands}
 use Rattle.cv_outside.specs.Whole.{IsUnread}
 use Rattle.std.proofs.lemmas.List.{length-take}
 
@@ -17,3 +18,11 @@ pub saw_more : (tells : Bool) (file : Option (List ℕ)) (max : ℕ) (got : List
     → (saw : Option (List ℕ)) × (IsTrue tells → saw ≡ file) × IsUnread TooLong saw max
 saw_more true file max got is more = (file, λ _. refl, longer file max got (is refl) more)
 saw_more false file max got is more = (Some got, λ t. absurd (cc), more)
+
+-- a tray on which no call was made stands
+pub tray_stays : (tray : TraySeen) → TrayStands tray tray
+tray_stays tray = record { told = refl; faults = omega arith }
+
+-- a sink on which no call was made stands
+pub sink_stays : (out : SinkSeen) → SinkStands out out
+sink_stays out = record { told = refl; faults = omega arith }

@@ -39,7 +39,7 @@ pub fn read_file<F: Shelf>(
 }
 
 /// Writes a whole text, piece by piece, however little the sink takes of each.
-#[tactic(auto, using(crate::proofs::Taken::taken_on))]
+#[tactic(auto, using(crate::proofs::TakenLemmas::taken_on))]
 pub fn write_all<O: Sink>(out: &mut O, text: &[u8]) -> Result<(), Unwritten>
     ensures stands { SinkStands (sink_seen O.Sink out.old) (sink_seen O.Sink out.new) }
     ensures cause { IfErr result (λ why. UnwrittenCause why

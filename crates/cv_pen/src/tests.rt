@@ -1,5 +1,6 @@
 //! Worked runs, and random segments and points against the test of each centre.
 
+use crate::strokes::half_side;
 use crate::{marker, stroke};
 use cv_geom::{centre, marked, near};
 use cv_model::{Point, Shape, Span, View};
@@ -80,7 +81,7 @@ fn covers(run: Option<Span>, i: u32) -> bool {
 /// Asserts that the runs of a pen have exactly the columns whose centres it hits.
 fn assert_stroke(rt: &impl Abort, a: Point, b: Point, width: u8, view: &View) {
     let size = u32::from(width % 64) + 1;
-    let r = i64::from(size) * view.u;
+    let r = half_side(view, size);
     for row in 0..view.h {
         let run = stroke(a, b, size, view, row);
         for i in 0..view.w {
@@ -93,7 +94,7 @@ fn assert_stroke(rt: &impl Abort, a: Point, b: Point, width: u8, view: &View) {
 /// Asserts that the runs of a marker have exactly the columns whose centres it covers.
 fn assert_marker(rt: &impl Abort, shape: Shape, middle: Point, size: u8, view: &View) {
     let size = u32::from(size) + 1;
-    let r = i64::from(size) * view.u;
+    let r = half_side(view, size);
     for row in 0..view.h {
         let run = marker(shape, middle, size, view, row);
         for i in 0..view.w {

@@ -1,4 +1,4 @@
--- Lemmas on the words of a command, on a layer's file and on the ends.
+-- Lemmas on the words of a command, on a layer's file and on a run.
 pub mod WordLemmas
 pub mod LayerLemmas
 pub mod RunLemmas

@@ -50,6 +50,7 @@ given true true false g v e = absurd (cc)
 given true false range g v e = absurd (cc)
 given false spread range g v e = absurd (cc)
 
+-- the view that is given at a size has that size
 pub has_size : (e : Rectangle) (w h : ℕ) (v : PixelGrid) → view_of e w h ≡ Ok v → HasSize w h v
 has_size e w h v is =
     let parts = given (is_size w h) (is_spread e) (is_in_range (grid_of e w h)) (grid_of e w h) v is in
@@ -80,6 +81,7 @@ pub only_viewed : (e : Rectangle) (w h : ℕ) (v : PixelGrid) (o : Option PixelG
 only_viewed e w h v o r is was width height gives =
     is ∙ ap result_ok (was ∙ ap (λ n. view_of e n h) (same_Some w v.w width) ∙ ap (λ n. view_of e v.w n) (same_Some h v.h height) ∙ gives)
 
+-- the extent of four numbers
 abbrev rectangle : ℤ → ℤ → ℤ → ℤ → Rectangle
 rectangle a b c d = record { xmin = a; ymin = b; xmax = c; ymax = d }
 
@@ -126,6 +128,7 @@ pub record IsOrdered (a b c d e f g h i j : List ℕ) (order : QuickParts) : Typ
   pub out : c ≡ order.out
   pub plan : IsPlan d e f g h i j order.view order.fill
 
+-- ten words that are an order's are its parts
 pub is_ordered : (words : List (List ℕ)) (a b c d e f g h i j : List ℕ) (order : QuickParts) → words ≡ ten a b c d e f g h i j → IsQuick words order → IsOrdered a b c d e f g h i j order
 is_ordered words a b c d e f g h i j order read q =
     let same : ten a b c d e f g h i j ≡ ten (codes "quick") order.csv order.out q.w q.h q.xmin q.ymin q.xmax q.ymax q.colour = sym read ∙ q.spelled in

@@ -5,12 +5,13 @@ use Rattle.cv_model.specs.declared.colour.Rgb.{Rgb}
 use Rattle.cv_model.specs.declared.delimiter.Delimiter.TheVariants.{Comma}
 use Rattle.cv_model.specs.Features.{FeatureTable}
 use Rattle.cv_model.specs.Views.{PixelGrid}
-use Rattle.cv_model.specs.Layers.{ProjectParts, features_project}
+use Rattle.cv_model.specs.Layers.{Project}
 use Rattle.cv_model.specs.Pictures.{picture}
 use Rattle.cv_model.specs.Rasters.{ppm_of}
 use Rattle.cv_model.specs.Symbols.{filled}
 use Rattle.cv_dtext.specs.declared.options.TextOptions.{TextOptions}
 use Rattle.cv_dtext.specs.declared.options.TextError.{TextError}
+use Rattle.cv_paint.specs.Plain.{features_project}
 use Rattle.cv_dtext.specs.Refusals.{features_of}
 use Rattle.cv_top.specs.declared.ends.DataError.{DataError}
 use Rattle.cv_top.specs.declared.ends.DataError.TheVariants.{Text, TooLong}
@@ -38,8 +39,8 @@ layer_of bytes =
     if nat_lt most_bytes (length bytes) then Err TooLong else as_layer (features_of quick_options bytes)
 
 -- the project of `quick`: one layer of these features with an opaque fill, over white
-abbrev pub quick_project : FeatureTable → Rgb → ProjectParts
-quick_project table fill = features_project table.features (filled fill)
+abbrev pub quick_project : FeatureTable → Rgb → Project
+quick_project table fill = features_project table (filled fill)
 
 -- the bytes of the picture of these features
 abbrev pub picture_bytes : FeatureTable → Rgb → PixelGrid → List ℕ

@@ -5,8 +5,8 @@ use Rattle.cv_model.specs.declared.colour.Rgb.{Rgb}
 use Rattle.cv_model.specs.Positions.{Rectangle}
 use Rattle.cv_model.specs.Views.{PixelGrid}
 use Rattle.cv_geom.specs.Views.{view_of}
-use Rattle.cv_decimal.specs.declared.fixed.Fixed.TheVariants.{Value}
-use Rattle.cv_decimal.specs.Spellings.{Spells}
+use Rattle.cv_number.specs.declared.fixed.Fixed.TheVariants.{Value}
+use Rattle.cv_number.specs.Spellings.{Spells}
 use Rattle.cv_top.specs.declared.orders.Order.{Order}
 use Rattle.cv_top.specs.declared.orders.Order.TheVariants.{Quick}
 use Rattle.cv_top.specs.Parts.{QuickParts}

@@ -40,7 +40,7 @@ returns-in_default-column-clause-err c = λ more.
     c.in-Some.is (c.in_ok-next.ensures d r.between) in
     header_given slice_left c.args.options.now c.args.bytes.now c.records-reader.result new
     (fields_of c.in-Some.header) None r.all given.0 given.1
-    (ap (λ (name : List ℕ). column_of name (fields_of c.in-Some.header)) (sym c.as_str.ensures)
+    (ap (λ (name : List ℕ). column_of name (fields_of c.in-Some.header)) (sym c.as_str.ensures.text)
     ∙ sym c.in_default-column.ensures.first)
 
 pub returns-in_err-gathered-clause-err : goal.returns-in_err-gathered-clause-err
@@ -55,7 +55,7 @@ returns-in_err-gathered-clause-err c =
     rw (passed.1, passed.2)
     (λ more. header_given slice_left c.args.options.now c.args.bytes.now c.records-reader.result new
     (fields_of c.in-Some.header) (Some c.in-Some-column.place) r.all given.0 given.1
-    (ap (λ (name : List ℕ). column_of name (fields_of c.in-Some.header)) (sym c.as_str.ensures)
+    (ap (λ (name : List ℕ). column_of name (fields_of c.in-Some.header)) (sym c.as_str.ensures.text)
     ∙ sym c.in-Some-column.ensures.first)
     ∙ c.in_err-gathered.ensures.err more)
 
@@ -69,7 +69,7 @@ returns-clause-ok c =
     header_given slice_left c.args.options.now c.args.bytes.now c.records-reader.result new
     (fields_of c.in-Some.header) (Some c.in-Some-column.place) r.all
     given.0 given.1 (ap (λ (name : List ℕ). column_of name (fields_of c.in-Some.header))
-    (sym c.as_str.ensures) ∙ sym c.in-Some-column.ensures.first)
+    (sym c.as_str.ensures.text) ∙ sym c.in-Some-column.ensures.first)
     ∙ c.in_ok-gathered.ensures.ok
     ∙ ap Ok (ap (λ (columns : List (List ℕ)). made columns c.in_ok-gathered.gathered)
     (sym c.in-Ok.ensures) ∙ sym c.of.ensures)

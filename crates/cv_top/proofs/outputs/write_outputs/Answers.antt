@@ -1,4 +1,6 @@
 use Rattle.std.proofs.Common.{refl, arith, rules}
+use Rattle.cv_outside.proofs.SeenLemmas.{sink_stays}
+use Rattle.cv_outside.specs.Seen.{sink_seen}
 use Rattle.cv_top.proofs.outputs.write_outputs.Goals as goal
 
 pub returns-in-Failed-clause-written : goal.returns-in-Failed-clause-written
@@ -13,7 +15,7 @@ returns-in-Failed-clause-written g c = record {
   };
   text = λ t. refl;
   tray_stands = record { told = c.write.ensures.told; faults = c.write.ensures.counts };
-  out_stands = record { told = refl; faults = omega arith };
+  out_stands = sink_stays (sink_seen g.O.Sink c.args.out.now);
 }
 
 pub returns-in-Err-NoMemory-clause-written : goal.returns-in-Err-NoMemory-clause-written

@@ -1,5 +1,6 @@
 use Rattle.std.proofs.Common.{Some, refl, ap, sym, subst, arith, ◌∙◌}
 use Rattle.cv_outside.specs.declared.ends.Unread.{Unread}
+use Rattle.cv_outside.proofs.SeenLemmas.{tray_stays, sink_stays}
 use Rattle.cv_outside.specs.Seen.{shelf_seen, tray_seen, sink_seen}
 use Rattle.cv_top.specs.declared.orders.Order.TheVariants.{Quick}
 use Rattle.cv_top.specs.Parts.{QuickParts}
@@ -27,10 +28,10 @@ returns-in-Err-TooLong g c =
     let shelf' = shelf_seen g.F.Shelf c.read_file.new.shelf in
     let tray = tray_seen g.T.Tray c.args.tray.now in
     let out = sink_seen g.O.Sink c.args.out.now in record {
-      untouched = (refl, refl);
+      untouched = (refl {a = c.args.tray.now}, refl {a = c.args.out.now});
       shelf_stands = c.in-Err-TooLong.ensures.stands;
-      tray_stands = record { told = refl; faults = omega arith };
-      out_stands = record { told = refl; faults = omega arith };
+      tray_stands = tray_stays tray;
+      out_stands = sink_stays out;
       run = subst (λ (why : Unread). IsRunOf (Quick c.args.order.now) (unread_end why) shelf shelf' tray tray out out) c.in-Err-TooLong.field-0-is
           (quick_unread c.args.order.now c.in-Err-TooLong.field-0 shelf shelf' tray out _ seen.0 csv seen.1 seen.2 c.in-Err-TooLong.ensures.cause c.in-Err-TooLong.ensures.names);
     }
@@ -43,10 +44,10 @@ returns-in-Err-Absent g c =
     let shelf' = shelf_seen g.F.Shelf c.read_file.new.shelf in
     let tray = tray_seen g.T.Tray c.args.tray.now in
     let out = sink_seen g.O.Sink c.args.out.now in record {
-      untouched = (refl, refl);
+      untouched = (refl {a = c.args.tray.now}, refl {a = c.args.out.now});
       shelf_stands = c.in-Err-Absent.ensures.stands;
-      tray_stands = record { told = refl; faults = omega arith };
-      out_stands = record { told = refl; faults = omega arith };
+      tray_stands = tray_stays tray;
+      out_stands = sink_stays out;
       run = subst (λ (why : Unread). IsRunOf (Quick c.args.order.now) (unread_end why) shelf shelf' tray tray out out) c.in-Err-Absent.field-0-is
           (quick_unread c.args.order.now c.in-Err-Absent.field-0 shelf shelf' tray out _ seen.0 csv seen.1 seen.2 c.in-Err-Absent.ensures.cause c.in-Err-Absent.ensures.names);
     }
@@ -59,10 +60,10 @@ returns-in-Err-Failed g c =
     let shelf' = shelf_seen g.F.Shelf c.read_file.new.shelf in
     let tray = tray_seen g.T.Tray c.args.tray.now in
     let out = sink_seen g.O.Sink c.args.out.now in record {
-      untouched = (refl, refl);
+      untouched = (refl {a = c.args.tray.now}, refl {a = c.args.out.now});
       shelf_stands = c.in-Err-Failed.ensures.stands;
-      tray_stands = record { told = refl; faults = omega arith };
-      out_stands = record { told = refl; faults = omega arith };
+      tray_stands = tray_stays tray;
+      out_stands = sink_stays out;
       run = subst (λ (why : Unread). IsRunOf (Quick c.args.order.now) (unread_end why) shelf shelf' tray tray out out) c.in-Err-Failed.field-0-is
           (quick_unread c.args.order.now c.in-Err-Failed.field-0 shelf shelf' tray out _ seen.0 csv seen.1 seen.2 c.in-Err-Failed.ensures.cause c.in-Err-Failed.ensures.names);
     }
@@ -77,8 +78,8 @@ returns-in-Err-NoMemory g c =
     let out = sink_seen g.O.Sink c.args.out.now in record {
       untouched = tt;
       shelf_stands = c.in-Err-NoMemory.ensures.stands;
-      tray_stands = record { told = refl; faults = omega arith };
-      out_stands = record { told = refl; faults = omega arith };
+      tray_stands = tray_stays tray;
+      out_stands = sink_stays out;
       run = subst (λ (why : Unread). IsRunOf (Quick c.args.order.now) (unread_end why) shelf shelf' tray tray out out) c.in-Err-NoMemory.field-0-is
           (quick_unread c.args.order.now c.in-Err-NoMemory.field-0 shelf shelf' tray out _ seen.0 csv seen.1 seen.2 c.in-Err-NoMemory.ensures.cause c.in-Err-NoMemory.ensures.names);
     }

@@ -1,4 +1,4 @@
-use Rattle.cv_outside.proofs.Rises.{no_rise}
+use Rattle.cv_outside.proofs.RiseLemmas.{no_rise}
 use Rattle.cv_top.proofs.RunLemmas.{no_fault}
 use Rattle.cv_top.proofs.top.run_surely.Goals as goal
 
