@@ -14,4 +14,3 @@ pub mod Layers
 pub mod Canvases
 pub mod Projects
 pub mod Errors
-pub mod Trees

@@ -57,11 +57,7 @@ fn rectangle(numbers: &[i64]) -> Extent
 fn is_size(width: u64, height: u64) -> bool
     ensures { result ≡ is_size width height }
 {
-    1 <= width
-        && width <= 4096
-        && 1 <= height
-        && height <= 4096
-        && width * height <= 2_097_152
+    1 <= width && width <= 4096 && 1 <= height && height <= 4096 && width * height <= 2_097_152
 }
 
 /// Whether a canvas has a view of its extent, if one is named.

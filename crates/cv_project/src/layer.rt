@@ -100,7 +100,14 @@ impl Member for LayerOf {
         let name = node.required("name", &Name)?;
         let source = node.required("source", &SourceOf)?;
         let visible = node.with_default("visible", &Flag, true)?;
-        let opacity = node.with_default("opacity", &Whole { least: 0, most: 255 }, 255)?;
+        let opacity = node.with_default(
+            "opacity",
+            &Whole {
+                least: 0,
+                most: 255,
+            },
+            255,
+        )?;
         let blend = node.with_default("blend", &OneOf::WORDS, Blend::Normal)?;
         let mask = node.optional("mask", &Id)?;
         let join = node.optional("join", &JoinOf)?;

@@ -61,3 +61,6 @@ pub fn read(alloc: Global, bytes: &[u8]) -> Result<ProjectFile, ProjectError>
         Err(refusal) => Err(refusal.error()),
     }
 }
+
+#[cfg(test)]
+mod tests;

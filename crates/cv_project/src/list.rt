@@ -84,7 +84,11 @@ impl<M: Member> Kind for ListOf<M> {
 }
 
 /// All members of a list in order, or the first refusal.
-pub fn members<'x, M: Member>(of: &M, node: &'x Node<'x>, items: &'x [Value]) -> Result<Sequence<M::Made>, Refusal>
+pub fn members<'x, M: Member>(
+    of: &M,
+    node: &'x Node<'x>,
+    items: &'x [Value],
+) -> Result<Sequence<M::Made>, Refusal>
     ensures exact { Answers result (members_from (M.made of.now) (seen node.now).path [] (items_view items.now)) }
     ensures kept { IfOk result (M.keeps of.now) }
     ensures count { IfOk result (λ xs. length xs ≡ length items.now) }

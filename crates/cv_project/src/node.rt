@@ -152,7 +152,12 @@ impl<'a> Node<'a> {
 
     /// A field with a default.
     #[tactic(auto, unfolding(crate::specs::Fields::with_default))]
-    pub fn with_default<K: Kind>(&self, name: &str, kind: &K, default: K::Made) -> Result<K::Made, Refusal>
+    pub fn with_default<K: Kind>(
+        &self,
+        name: &str,
+        kind: &K,
+        default: K::Made,
+    ) -> Result<K::Made, Refusal>
         requires { K.keeps kind.now default }
         ensures exact { Answers result (with_default default (K.made kind.now) name.now (seen self.now)) }
         ensures kept { IfOk result (K.keeps kind.now) }

@@ -23,10 +23,7 @@ pub trait Word: Copy + 'static {
 pub fn find_word<W: Word>(text: &str) -> Option<W>
     ensures { result ≡ find (λ word. bytes_eq (W.spelling word) text.now) W.all }
 {
-    W::words()
-        .iter()
-        .copied()
-        .find(|word| word.word() == text)
+    W::words().iter().copied().find(|word| word.word() == text)
 }
 
 impl Word for Blend {
