@@ -1,15 +1,32 @@
-# Commands for a fresh machine with the Rattle kit's `rt` on the path:
-#   make first-map    builds the program and paints examples/first-map into first-map.ppm
-#   make coast        builds the program and paints examples/coast into coast.ppm
-#   make test         passes all proofs, edits that must fail, tests and programs
+# Commands for a machine that has the Rattle kit's `rt` on the path:
+#   make build        proves all crates and builds the program, which then stands as crates/canvas/out/canvas
+#   make coast        builds it where that is needed, and paints examples/coast into coast.ppm
+#   make first-map    the same for examples/first-map
+#   make examples     the same for all examples, and compares them with what they must be
+#   make test         passes all proofs, edits that must be refused, tests, programs, examples and documents
 
-.PHONY: first-map coast test
+PROGRAM = crates/canvas/out/canvas
+SOURCES := crates.txt $(shell find crates -name out -prune -o \( -name '*.rt' -o -name '*.antt' \) -print)
 
-first-map:
-	cd crates/canvas && rt run -- quick ../../examples/first-map/lakes.csv ../../first-map.ppm 640 448 0 0 320 224 3b76a8
+# How many crates are proved side by side; `rt` chooses where nothing is said.
+JOBS =
 
-coast:
-	cd crates/canvas && rt run -- quick ../../examples/coast/coast.csv ../../coast.ppm 640 448 412000 5981600 444000 6004000 5f8a5b
+.PHONY: build coast first-map examples test
+
+build: $(PROGRAM)
+
+# `rt run` builds the program only to run it, so it paints a small picture of its own.
+$(PROGRAM): $(SOURCES)
+	rt all check $(if $(JOBS),--jobs $(JOBS))
+	cd crates/canvas && rt run -- quick data/sq.csv out/sq.ppm 4 4 0 0 4 4 ff0000
+	touch $@
+
+coast first-map: $(PROGRAM)
+	cd examples/$@ && ../../$(PROGRAM) $$(cat command)
+	mv examples/$@/$@.ppm .
+
+examples: $(PROGRAM)
+	tools/run-examples $(PROGRAM)
 
 test:
 	.ci/run

@@ -1,6 +1,8 @@
 //! The real files, as a shelf and a tray. They tell nothing of content, and count each failure of the system.
 
-ghost use Rattle.std.specs.Prelude.{false, ◌≤◌, length, OnOk};
+ghost use Rattle.std.specs.Prelude.{false, ◌≡◌, ◌≤◌, ◌↔◌, [], length, take, OnOk, IfSome};
+ghost use Rattle.cv_outside.specs.Counts.{Rose};
+ghost use Rattle.cv_outside.specs.Reads.{ReadCause};
 
 use cv_outside::{ReadEnd, Shelf, Tray, TrayEnd};
 use std::io::{ErrorKind, Read};
@@ -24,6 +26,22 @@ impl<'a, R: Files> FileShelf<'a, R> {
             misses: 0,
         }
     }
+
+    /// Counts an answer: a miss for an absent file, a fault for a failure.
+    fn refuse(&mut self, end: ReadEnd) -> ReadEnd
+        ensures faults { self.old.faults ≤ self.new.faults }
+        ensures misses { self.old.misses ≤ self.new.misses }
+        ensures cause { ReadCause result (Rose self.old.faults self.new.faults)
+            (Rose self.old.misses self.new.misses) }
+        ensures end { result ≡ end }
+    {
+        match end {
+            ReadEnd::Absent => self.misses = self.misses.saturating_add(1),
+            ReadEnd::Failed => self.faults = self.faults.saturating_add(1),
+            ReadEnd::Found | ReadEnd::NoMemory => {}
+        }
+        end
+    }
 }
 
 /// Why a file's bytes did not come.
@@ -32,29 +50,38 @@ enum Broken {
     NoMemory,
 }
 
-/// Puts bytes of a file behind those of `into`, up to `most` in all.
-fn fill(file: &mut impl Read, most: u64, into: &mut Vec<u8>) -> Result<(), Broken>
-    requires { length into.old.items ≤ most }
-    ensures { OnOk result (length into.new.items ≤ most) }
+/// Reads the first `most` bytes of a file, or all if there are fewer.
+fn fill<R: Read + Drop>(file: R, most: u64, into: &mut Vec<u8>) -> Result<(), Broken>
+    requires { into.old.items ≡ [] }
+    ensures size { OnOk result (length into.new.items ≤ most) }
+    ensures bytes { OnOk result (IfSome (R.remaining file) (λ bytes. into.new.items ≡ take most bytes)) }
 {
-    let mut chunk = [0u8; 65536];
-    for _ in 0..u64::MAX {
-        let room = most
-            .saturating_sub(into.len() as u64)
-            .min(chunk.len() as u64) as usize;
-        if room == 0 {
-            return Ok(());
+    let mut front = file.take(most);
+    match front.read_to_end(into) {
+        Ok(_) => {
+            into.truncate(most as usize);
+            Ok(())
         }
-        let got = match file.read(&mut chunk[..room]) {
-            Ok(0) => return Ok(()),
-            Ok(got) => got,
-            Err(_) => return Err(Broken::Read),
-        };
-        if into.extend_from_slice(&chunk[..got]).is_err() {
-            return Err(Broken::NoMemory);
-        }
+        Err(error) => Err(unread(error.kind())),
     }
-    Ok(())
+}
+
+/// Why a read failed.
+fn unread(kind: ErrorKind) -> Broken {
+    match kind {
+        ErrorKind::OutOfMemory => Broken::NoMemory,
+        _ => Broken::Read,
+    }
+}
+
+/// What an open that failed with this kind says of the file: it is absent only where none was found.
+fn unopened(kind: ErrorKind) -> ReadEnd
+    ensures { (result ≡ ReadEnd.Absent) ↔ (kind ≡ ErrorKind.NotFound) }
+{
+    match kind {
+        ErrorKind::NotFound => ReadEnd::Absent,
+        _ => ReadEnd::Failed,
+    }
 }
 
 impl<'a, R: Files> Shelf for FileShelf<'a, R> {
@@ -72,18 +99,11 @@ impl<'a, R: Files> Shelf for FileShelf<'a, R> {
 
     fn read(&mut self, name: &str, max: u64, into: &mut Vec<u8>) -> ReadEnd {
         into.clear();
-        let mut file = match fs::open(self.files, name) {
+        let file = match fs::open(self.files, name) {
             Ok(file) => file,
-            Err(error) if error.kind() == ErrorKind::NotFound => {
-                self.misses = self.misses.saturating_add(1);
-                return ReadEnd::Absent;
-            }
-            Err(_) => {
-                self.faults = self.faults.saturating_add(1);
-                return ReadEnd::Failed;
-            }
+            Err(error) => return self.refuse(unopened(error.kind())),
         };
-        match fill(&mut file, max.saturating_add(1), into) {
+        match fill(file, max.saturating_add(1), into) {
             Ok(()) => ReadEnd::Found,
             Err(Broken::NoMemory) => {
                 into.clear();
@@ -91,8 +111,7 @@ impl<'a, R: Files> Shelf for FileShelf<'a, R> {
             }
             Err(Broken::Read) => {
                 into.clear();
-                self.faults = self.faults.saturating_add(1);
-                ReadEnd::Failed
+                self.refuse(ReadEnd::Failed)
             }
         }
     }

@@ -2,9 +2,11 @@
 #![tactic(auto)]
 
 mod files;
+mod lines;
 mod output;
 
 use crate::files::{FileShelf, FileTray};
+use crate::lines::conclude;
 use crate::output::Output;
 use cv_model::{Sequence, Text};
 use cv_outside::Open;
@@ -12,9 +14,6 @@ use cv_top::{End, run};
 use std::alloc::{AllocError, Global};
 use std::process::ExitCode;
 use std::{env, io};
-
-/// What standard error gets behind the line `usage`: the forms of the commands, one a line.
-const FORMS: &str = "quick <csv> <out> <w> <h> <xmin> <ymin> <xmax> <ymax> <rrggbb>";
 
 /// The words behind the program's name. A word that isn't UTF-8 makes none of them a form.
 fn words<R: env::Env + AllocGlobal>(rt: &R) -> Result<Sequence<Text>, End> {
@@ -37,25 +36,22 @@ fn unread(kind: io::ErrorKind) -> End {
 }
 
 fn main(rt: HostRuntime) -> ExitCode {
-    let end = match words(&rt) {
-        Ok(words) => run(
-            &rt,
-            rt.alloc(),
-            words.as_slice(),
-            &mut FileShelf::new(&rt),
-            &mut FileTray::new(&rt),
-            &mut Output::new(io::writer(&rt)),
-            &Open,
-        ),
-        Err(end) => end,
+    let errors = rt.stderr();
+    let to = &mut io::writer(&errors);
+    let words = match words(&rt) {
+        Ok(words) => words,
+        Err(end) => return conclude(&end, &[], to),
     };
-    if end != End::Done {
-        let _ = eprintln!(&rt; "{end}");
-    }
-    if end == End::Usage {
-        let _ = eprintln!(&rt; "{FORMS}");
-    }
-    ExitCode::from(end.status())
+    let end = run(
+        &rt,
+        rt.alloc(),
+        words.as_slice(),
+        &mut FileShelf::new(&rt),
+        &mut FileTray::new(&rt),
+        &mut Output::new(io::writer(&rt)),
+        &Open,
+    );
+    conclude(&end, words.as_slice(), to)
 }
 
 #[cfg(test)]

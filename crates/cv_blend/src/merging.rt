@@ -1,35 +1,54 @@
 //! Merging a layer's colour onto the opaque picture below it.
 
-ghost use Rattle.std.specs.Prelude.{◌≡◌, ◌*◌};
-ghost use Rattle.cv_model.specs.Rounding.{rnd};
-ghost use Rattle.cv_model.specs.Colours.{merge, blended, channel_merged};
+ghost use Rattle.std.specs.Prelude.{◌≡◌, ◌+◌, ◌*◌, min};
+ghost use Rattle.cv_number.specs.Rounding.{rnd};
+ghost use Rattle.cv_model.specs.Blends.{merge, mixed, effective, channel_merged};
 
+use crate::modes::{
+    color_burn, color_dodge, difference, exclusion, hard_light, multiply, over_255, screen,
+};
 use cv_model::{Blend, Rgb, Rgba};
-
-/// The blend function of a mode, of a backdrop's channel and a source's.
-fn blended_by(mode: Blend, _backdrop: u8, source: u8) -> u8
-    ensures { result ≡ blended mode _backdrop source }
-{
-    match mode {
-        Blend::Normal => source,
-    }
-}
 
 /// The alpha of a layer's colour under the layer's opacity, of which 255 leaves it as it is.
 fn effective(alpha: u8, opacity: u8) -> u8
-    ensures { result ≡ rnd (alpha * opacity) 255 }
+    ensures { result ≡ effective alpha opacity }
 {
-    ((2 * (u32::from(alpha) * u32::from(opacity)) + 255) / 510) as u8
+    over_255(u32::from(alpha) * u32::from(opacity))
 }
 
-/// A channel of effective alpha `alpha` blended onto a backdrop's channel.
-fn channel(mode: Blend, alpha: u8, backdrop: u8, source: u8) -> u8
-    ensures { result ≡ channel_merged mode alpha backdrop source }
+/// A channel of effective alpha `alpha`, mixed with the backdrop's channel.
+fn mixed(alpha: u8, backdrop: u8, channel: u8) -> u8
+    ensures { result ≡ mixed alpha backdrop channel }
 {
     let alpha = u32::from(alpha);
-    let below = (255 - alpha) * u32::from(backdrop);
-    let above = alpha * u32::from(blended_by(mode, backdrop, source));
-    ((2 * (below + above) + 255) / 510) as u8
+    over_255((255 - alpha) * u32::from(backdrop) + alpha * u32::from(channel))
+}
+
+/// A channel of effective alpha `alpha`, added to the backdrop's channel up to 255.
+fn added(alpha: u8, backdrop: u8, channel: u8) -> u8
+    ensures { result ≡ min 255 (backdrop + rnd (alpha * channel) 255) }
+{
+    backdrop.saturating_add(over_255(u32::from(alpha) * u32::from(channel)))
+}
+
+/// A channel of effective alpha `alpha`, merged onto a backdrop's channel `cb`.
+fn channel(mode: Blend, alpha: u8, cb: u8, cs: u8) -> u8
+    ensures { result ≡ channel_merged mode alpha cb cs }
+{
+    match mode {
+        Blend::Normal => mixed(alpha, cb, cs),
+        Blend::Multiply => mixed(alpha, cb, multiply(cb, cs)),
+        Blend::Screen => mixed(alpha, cb, screen(cb, cs)),
+        Blend::Overlay => mixed(alpha, cb, hard_light(cs, cb)),
+        Blend::Darken => mixed(alpha, cb, cb.min(cs)),
+        Blend::Lighten => mixed(alpha, cb, cb.max(cs)),
+        Blend::ColorDodge => mixed(alpha, cb, color_dodge(cb, cs)),
+        Blend::ColorBurn => mixed(alpha, cb, color_burn(cb, cs)),
+        Blend::HardLight => mixed(alpha, cb, hard_light(cb, cs)),
+        Blend::Difference => mixed(alpha, cb, difference(cb, cs)),
+        Blend::Exclusion => mixed(alpha, cb, exclusion(cb, cs)),
+        Blend::Addition => added(alpha, cb, cs),
+    }
 }
 
 /// The colour `source` of a layer with this opacity and blend mode, merged onto the opaque colour `backdrop`.

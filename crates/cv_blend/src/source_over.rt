@@ -1,7 +1,7 @@
 //! Source-over: what a colour laid over another looks like.
 
 ghost use Rattle.std.specs.Prelude.{◌≡◌, ◌<◌};
-ghost use Rattle.cv_model.specs.Rounding.{rnd};
+ghost use Rattle.cv_number.specs.Rounding.{rnd};
 ghost use Rattle.cv_model.specs.Colours.{over, covered, channel_over};
 
 use cv_model::Rgba;

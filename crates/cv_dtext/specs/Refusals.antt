@@ -1,37 +1,37 @@
 -- Why a delimited text is refused, and what a reader answers: the first record that shows a cause decides.
-use Rattle.std.specs.Prelude.{◌≡◌, ◌⊎◌, ℕ, ◌+◌, ◌==◌, nat_lt, Bool, not, ◌||◌, if◌then◌else◌, List, [], ◌∷◌, ◌++◌, length, sum_by, Option, Some, None, Result, Ok, Err}
-use Rattle.std.specs.List.{list_all}
+use Rattle.std.specs.Prelude.{◌≡◌, ◌⊎◌, ℕ, ◌+◌, ◌==◌, nat_lt, Bool, not, ◌||◌, if◌then◌else◌, List, [], ◌∷◌}
+use Rattle.std.specs.Prelude.{◌++◌, length, sum_by, Option, Some, None, Result, Ok, Err}
 use Rattle.std.specs.Option.{option_or, unwrap_or, is_none}
-use Rattle.std.specs.Str.{is_utf8}
 use Rattle.cv_model.specs.declared.feature.Room.{Room}
 use Rattle.cv_model.specs.Features.{FeatureTable}
 use Rattle.cv_dtext.specs.declared.options.TextOptions.{TextOptions}
 use Rattle.cv_dtext.specs.declared.options.TextError.{TextError}
-use Rattle.cv_dtext.specs.declared.options.TextError.TheVariants.{NoHeader, NoGeometryColumn, Uneven, NotUtf8, TooMany}
-use Rattle.cv_dtext.specs.Records.{Fields, records_of}
-use Rattle.cv_dtext.specs.Cells.{vertices_in}
-use Rattle.cv_dtext.specs.Tables.{column_of, cell_at, others, table_of}
+use Rattle.cv_dtext.specs.declared.options.TextError.TheVariants.{NoHeader, NoGeometryColumn, Uneven, NotUtf8}
+use Rattle.cv_dtext.specs.declared.options.TextError.TheVariants.{TooMany}
+use Rattle.cv_dtext.specs.Records.{Fields, are_texts, records_of}
+use Rattle.cv_dtext.specs.Cell.{vertices_in}
+use Rattle.cv_dtext.specs.Table.{column_of, cell_at, others, table_of}
 
--- each field is UTF-8
-abbrev pub are_texts : Fields → Bool
-are_texts fields = list_all is_utf8 fields
-
--- how many vertices the features of these records have, and how many values
+-- how many vertices the features of these records have
 abbrev pub vertices_in_all : ℕ → List Fields → ℕ
-vertices_in_all place rows = sum_by (λ fields. vertices_in (cell_at place fields)) rows
+vertices_in_all place records = sum_by (λ fields. vertices_in (cell_at place fields)) records
 
+-- and how many values
 abbrev pub values_in_all : ℕ → List Fields → ℕ
-values_in_all place rows = sum_by (λ fields. length (others place fields)) rows
+values_in_all place records = sum_by (λ fields. length (others place fields)) records
 
 -- so many features, vertices or values are more than there is room for
 abbrev pub is_past : Room → ℕ → ℕ → ℕ → Bool
-is_past room features vertices values = nat_lt room.features features || (nat_lt room.vertices vertices || nat_lt room.values values)
+is_past room features vertices values =
+    nat_lt room.features features || (nat_lt room.vertices vertices || nat_lt room.values values)
 
 -- these records have more of them than there is room for
 abbrev pub pass : Room → ℕ → List Fields → Bool
-pass room place rows = is_past room (length rows) (vertices_in_all place rows) (values_in_all place rows)
+pass room place records =
+    is_past room (length records) (vertices_in_all place records) (values_in_all place records)
 
--- what a record shows behind others that show nothing: another number of fields than the header's, a field that is no
+-- what a record shows behind others that show nothing: another number of fields than the header's, a field
+-- that is no
 -- text, or features that pass the room
 abbrev pub shown : Room → ℕ → ℕ → List Fields → Fields → Option TextError
 shown room place width before fields =
@@ -44,8 +44,9 @@ shown room place width before fields =
 -- the first cause that the records behind others show
 abbrev pub first_shown : Room → ℕ → ℕ → List Fields → List Fields → Option TextError
 first_shown room place width before [] = None
-first_shown room place width before (fields ∷ rows) =
-    option_or (shown room place width before fields) (first_shown room place width (before ++ fields ∷ []) rows)
+first_shown room place width before (fields ∷ records) =
+    option_or (shown room place width before fields)
+    (first_shown room place width (before ++ fields ∷ []) records)
 
 -- a table, but where a cause is shown
 abbrev pub unless : Option TextError → FeatureTable → Result FeatureTable TextError
@@ -54,19 +55,20 @@ unless None table = Ok table
 
 -- the answer to the records behind a header, some of which come before the others
 abbrev pub answer_behind : Room → ℕ → Fields → List Fields → List Fields → Result FeatureTable TextError
-answer_behind room place header before rows =
-    unless (first_shown room place (length header) before rows) (table_of place header (before ++ rows))
+answer_behind room place header before records =
+    unless (first_shown room place (length header) before records) (table_of place header (before ++ records))
 
 -- the answer to a header with its geometry's column, and to the records behind it
 abbrev pub answer_in : Room → Option ℕ → Fields → List Fields → Result FeatureTable TextError
-answer_in room None header rows = Err NoGeometryColumn
-answer_in room (Some place) header rows = answer_behind room place header [] rows
+answer_in room None header records = Err NoGeometryColumn
+answer_in room (Some place) header records = answer_behind room place header [] records
 
 -- the answer to records, the first of which is the header
 abbrev pub answer : TextOptions → List Fields → Result FeatureTable TextError
 answer options [] = Err NoHeader
-answer options (header ∷ rows) =
-    if are_texts header then answer_in options.room (column_of options.geometry header) header rows else Err (NotUtf8 0)
+answer options (header ∷ records) =
+    if are_texts header then answer_in options.room (column_of options.geometry header) header records
+    else Err (NotUtf8 0)
 
 -- the features of a delimited text, or why it is refused
 unfoldable pub features_of : TextOptions → List ℕ → Result FeatureTable TextError
@@ -89,27 +91,31 @@ shown_behind options (header ∷ before) fields =
 
 -- each record shows nothing behind those before it
 abbrev pub NoneShown : TextOptions → List Fields → Type 0
-NoneShown options rows = (before rest : List Fields) (fields : Fields) → rows ≡ before ++ fields ∷ rest → shown_behind options before fields ≡ None
+NoneShown options records =
+    (before rest : List Fields) (fields : Fields) → records ≡ before ++ fields ∷ rest
+    → shown_behind options before fields ≡ None
 
 -- a record shows the cause, and no record before it shows any
-pub record IsFirstShown (options : TextOptions) (rows : List Fields) (e : TextError) : Type 0 where
+pub record IsFirstShown (options : TextOptions) (records : List Fields) (e : TextError) : Type 0 where
   pub before : List Fields
   pub fields : Fields
   pub rest : List Fields
-  pub split : rows ≡ before ++ fields ∷ rest
+  pub split : records ≡ before ++ fields ∷ rest
   pub calm : NoneShown options before
   pub shows : shown_behind options before fields ≡ Some e
 
 -- why a text is refused: it has no record, or its first record that shows a cause shows this one
 abbrev pub IsRefused : TextOptions → List ℕ → TextError → Type 0
-IsRefused options bytes e = ((records_of options.delimiter bytes ≡ []) × (e ≡ NoHeader)) ⊎ IsFirstShown options (records_of options.delimiter bytes) e
+IsRefused options bytes e =
+    ((records_of options.delimiter bytes ≡ []) × (e ≡ NoHeader)) ⊎ IsFirstShown options
+    (records_of options.delimiter bytes) e
 
 -- what a text is read as: it has a header with the geometry's column, and no record shows a cause
 pub record IsRead (options : TextOptions) (bytes : List ℕ) (table : FeatureTable) : Type 0 where
   pub header : Fields
-  pub rows : List Fields
+  pub records : List Fields
   pub place : ℕ
-  pub records : records_of options.delimiter bytes ≡ header ∷ rows
+  pub all : records_of options.delimiter bytes ≡ header ∷ records
   pub column : column_of options.geometry header ≡ Some place
-  pub calm : NoneShown options (header ∷ rows)
-  pub made : table ≡ table_of place header rows
+  pub calm : NoneShown options (header ∷ records)
+  pub made : table ≡ table_of place header records

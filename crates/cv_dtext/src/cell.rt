@@ -3,9 +3,11 @@
 ghost use Rattle.std.specs.Prelude.{◌≡◌, IfOk};
 ghost use Rattle.std.specs.List.{list_all};
 ghost use Rattle.cv_model.specs.Geometries.{counted};
-ghost use Rattle.cv_dtext.specs.Cells.{is_white, cell_of, geometry_in, vertices_in, note_on};
+ghost use Rattle.cv_reading.specs.Space.{is_space};
+ghost use Rattle.cv_dtext.specs.Cell.{cell_of, geometry_in, vertices_in, note_on};
 
 use cv_model::{Geometry, NoMemory, Note, WktError};
+use cv_reading::is_space;
 use std::alloc::{AllocError, Global};
 
 /// What the cell of a geometry says.
@@ -19,21 +21,15 @@ pub enum Cell {
     Refused(WktError),
 }
 
-fn is_white(byte: u8) -> bool
-    ensures { result ≡ is_white byte }
-{
-    matches!(byte, b' ' | b'\t' | b'\r' | b'\n')
-}
-
 /// Whether a cell is empty or white.
 fn is_blank(bytes: &[u8]) -> bool
-    ensures { result ≡ list_all is_white bytes.now }
+    ensures { result ≡ list_all is_space bytes.now }
 {
-    bytes.iter().all(|byte| is_white(*byte))
+    bytes.iter().all(|byte| is_space(*byte))
 }
 
 /// What a cell says, as the grammar of well-known text has it.
-#[tactic(auto, unfolding(crate::specs::Cells::cell_of))]
+#[tactic(auto, unfolding(crate::specs::Cell::cell_of))]
 pub fn read_cell(alloc: Global, bytes: &[u8]) -> Result<Cell, NoMemory>
     ensures { IfOk result (λ cell. cell ≡ cell_of bytes.now) }
 {
@@ -58,12 +54,15 @@ impl Cell {
         }
     }
 
-    /// The note on it as the cell of this record, where its text is refused.
-    pub fn note(&self, row: u32) -> Option<Note>
-        ensures { result ≡ note_on row self.now }
+    /// The note on it as the cell of the record of this number, where its text is refused.
+    pub fn note(&self, number: u32) -> Option<Note>
+        ensures { result ≡ note_on number self.now }
     {
         match self {
-            Cell::Refused(error) => Some(Note { row, error: *error }),
+            Cell::Refused(error) => Some(Note {
+                row: number,
+                error: *error,
+            }),
             _ => None,
         }
     }

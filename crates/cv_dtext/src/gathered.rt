@@ -3,7 +3,7 @@
 ghost use Rattle.std.specs.Prelude.{◌≡◌, ◌++◌, ◌∷◌, ◌<◌, ℕ, [], length, OnOk};
 ghost use Rattle.std.specs.Option.{option_to_list};
 ghost use Rattle.csv.specs.Records.{fields_of};
-ghost use Rattle.cv_dtext.specs.Reading.{gathered_of, with_record, IsAdded};
+ghost use Rattle.cv_dtext.specs.Gathered.{gathered_of, with_record, IsAdded};
 
 use crate::cell::read_cell;
 use crate::counts::Counts;
@@ -53,21 +53,21 @@ impl Gathered {
     pub fn add(
         &mut self,
         alloc: Global,
-        row: &StringRecord,
+        texts: &StringRecord,
         place: usize,
         number: u32,
         room: &Room,
     ) -> Result<(), TextError>
-        requires { place < length (fields_of row.now) }
+        requires { place < length (fields_of texts.now) }
         ensures { IsAdded room.now number
-            (with_record place number (fields_of row.now) self.old) self.new result }
+            (with_record place number (fields_of texts.now) self.old) self.new result }
     {
-        let Ok(cell) = read_cell(alloc, bytes_at(row, place)) else {
+        let Ok(cell) = read_cell(alloc, bytes_at(texts, place)) else {
             return Err(TextError::NoMemory);
         };
-        let others = row.len() as u64 - 1;
+        let others = texts.len() as u64 - 1;
         let counts = self.counts.with(number, cell.vertices(), others, room)?;
-        let Ok(values) = other_texts(alloc, row, place) else {
+        let Ok(values) = other_texts(alloc, texts, place) else {
             return Err(TextError::NoMemory);
         };
         let note = cell.note(number);

@@ -2,9 +2,8 @@
 //!
 //! Contract: the features and notes are those of the records, and of the records that are refused the first
 //! decides.
-//! Definitions: `Records`, which cites those of the crate `csv`; `Cells`, over the grammar of `cv_wkt`;
-//! `Tables`, the features of records; `Refusals`, the answer to them. `Reading` is what the parts of the code
-//! say to each other.
+//! Definitions: `Records`, which cites those of the crate `csv`; `Cell`, over the grammar of `cv_wkt`;
+//! `Table`, the features of records; `Refusals`, the answer to them.
 //! Memory is taken for what is read and for one record at a time; no handle is needed.
 #![tactic(auto)]
 
@@ -14,15 +13,17 @@ ghost use Rattle.cv_dtext.specs.Refusals.{IsRead, IsRefused, features_of};
 
 mod cell;
 mod counts;
+mod features;
 mod fields;
 mod gathered;
-pub mod options;
+mod laws;
+mod options;
 mod records;
-mod rows;
 mod table;
 
 use cv_model::FeatureList;
-pub use options::{TextError, TextOptions};
+pub use laws::features_are_read;
+pub use options::{MOST_BYTES, TextError, TextOptions};
 use std::alloc::Global;
 
 /// The features of a delimited text, or why it is refused.
@@ -32,7 +33,7 @@ use std::alloc::Global;
 /// nothing, and a cell that is refused gives a note. The first record that shows a cause of refusal decides.
 /// Source: RFC 4180 as the crate `csv` reads it, without trimming; well-known text of OGC 06-103r4.
 pub fn read(alloc: Global, bytes: &[u8], options: &TextOptions) -> Result<FeatureList, TextError>
-    requires { length bytes.now ≤ 268435456 }
+    requires { length bytes.now ≤ MOST_BYTES }
     // There is a header with the geometry's column, no record shows a cause, and the table is theirs.
     ensures found { IfOk result (IsRead options.now bytes.now) }
     ensures only { (table : FeatureTable) → IsRead options.now bytes.now table

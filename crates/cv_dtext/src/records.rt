@@ -4,7 +4,7 @@ ghost use Rattle.std.specs.Prelude.{◌≡◌, ◌≤◌, Option, List, ℕ, Som
 ghost use Rattle.csv.specs.declared.parser.State.{State};
 ghost use Rattle.cv_model.specs.declared.delimiter.Delimiter.{Delimiter};
 ghost use Rattle.cv_dtext.specs.Records.{delimiter_byte, records_of};
-ghost use Rattle.cv_dtext.specs.Reading.{slice_left, Stands, IsNext, IsBetween, IsNextTexts, rows_left, unread};
+ghost use Rattle.cv_dtext.specs.Records.{slice_left, Stands, IsNext, IsBetween, IsNextTexts, records_left, bytes_left};
 
 use crate::options::TextError;
 use csv::{ByteRecord, ErrorKind, Reader, ReaderBuilder, StringRecord};
@@ -25,8 +25,8 @@ fn delimiter_byte(delimiter: Delimiter) -> u8
 pub fn records(alloc: Global, bytes: &[u8], delimiter: Delimiter) -> Reader<&[u8]>
     ensures between { IsBetween slice_left delimiter result }
     ensures first { result.expected ≡ None }
-    ensures all { rows_left slice_left delimiter result ≡ records_of delimiter bytes.now }
-    ensures short { length (unread slice_left result) ≤ length bytes.now }
+    ensures all { records_left slice_left delimiter result ≡ records_of delimiter bytes.now }
+    ensures short { length (bytes_left slice_left result) ≤ length bytes.now }
 {
     ReaderBuilder::new()
         .delimiter(delimiter_byte(delimiter))
@@ -34,8 +34,8 @@ pub fn records(alloc: Global, bytes: &[u8], delimiter: Delimiter) -> Reader<&[u8
         .from_reader(alloc, bytes)
 }
 
-/// The next record, if there is one; it is counted by this number.
-fn next_row(
+/// The next record as bytes, if there is one; it is counted by this number.
+fn next_bytes(
     alloc: Global,
     reader: &mut Reader<&[u8]>,
     number: u32,
@@ -44,9 +44,9 @@ fn next_row(
         → Stands slice_left d reader.old s left width
         → IsNext slice_left d s left width number reader.new result }
 {
-    let mut row = ByteRecord::new(alloc);
-    match reader.read_byte_record(&mut row) {
-        Ok(true) => Ok(Some(row)),
+    let mut found = ByteRecord::new(alloc);
+    match reader.read_byte_record(&mut found) {
+        Ok(true) => Ok(Some(found)),
         Ok(false) => Ok(None),
         Err(error) => match error.into_kind() {
             ErrorKind::UnequalLengths { .. } => Err(TextError::Uneven(number)),
@@ -64,14 +64,11 @@ pub fn next_texts(
     ensures { (d : Delimiter) → IsBetween slice_left d reader.old
         → IsNextTexts slice_left d number reader.old reader.new result }
 {
-    let next = match next_row(alloc, reader, number) {
-        Ok(next) => next,
-        Err(refusal) => return Err(refusal),
-    };
-    let Some(row) = next else {
+    let next = next_bytes(alloc, reader, number)?;
+    let Some(found) = next else {
         return Ok(None);
     };
-    match StringRecord::from_byte_record(row) {
+    match StringRecord::from_byte_record(found) {
         Ok(texts) => Ok(Some(texts)),
         Err(_) => Err(TextError::NotUtf8(number)),
     }

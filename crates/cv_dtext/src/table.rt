@@ -3,10 +3,10 @@
 ghost use Rattle.std.specs.Prelude.{◌≡◌, ◌≢◌, ◌≤◌, length, Ok, Err, IfOk, IfErr};
 ghost use Rattle.cv_dtext.specs.Refusals.{features_of};
 
+use crate::features::gather;
 use crate::fields::{column, other_texts};
-use crate::options::{TextError, TextOptions};
+use crate::options::{MOST_BYTES, TextError, TextOptions};
 use crate::records::{next_texts, records};
-use crate::rows::gather;
 use cv_model::FeatureList;
 use std::alloc::Global;
 
@@ -16,26 +16,20 @@ pub fn read_table(
     bytes: &[u8],
     options: &TextOptions,
 ) -> Result<FeatureList, TextError>
-    requires { length bytes.now ≤ 268435456 }
+    requires { length bytes.now ≤ MOST_BYTES }
     ensures ok { IfOk result (λ table. features_of options.now bytes.now ≡ Ok table) }
     ensures err { IfErr result (λ e. e ≢ TextError.NoMemory
         → features_of options.now bytes.now ≡ Err e) }
 {
     let mut reader = records(alloc, bytes, options.delimiter);
-    let next = match next_texts(alloc, &mut reader, 0) {
-        Ok(next) => next,
-        Err(refusal) => return Err(refusal),
-    };
+    let next = next_texts(alloc, &mut reader, 0)?;
     let Some(header) = next else {
         return Err(TextError::NoHeader);
     };
     let Some(place) = column(&header, options.geometry.as_str()) else {
         return Err(TextError::NoGeometryColumn);
     };
-    let gathered = match gather(alloc, &mut reader, &header, place, options) {
-        Ok(gathered) => gathered,
-        Err(refusal) => return Err(refusal),
-    };
+    let gathered = gather(alloc, &mut reader, &header, place, options)?;
     let Ok(columns) = other_texts(alloc, &header, place) else {
         return Err(TextError::NoMemory);
     };

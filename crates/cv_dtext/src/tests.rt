@@ -39,8 +39,8 @@ fn summary(alloc: Global, table: &FeatureList) -> Result<String, Fail> {
         }
     }
     for note in table.notes() {
-        let (row, error) = (note.row, note.error);
-        let noted = format!(in alloc; " !{row} {error:?}")?;
+        let (number, error) = (note.row, note.error);
+        let noted = format!(in alloc; " !{number} {error:?}")?;
         text.push_str(noted.as_str())?;
     }
     Ok(text)
@@ -65,7 +65,7 @@ fn found(alloc: Global, bytes: &[u8], delimiter: Delimiter, room: Room) -> Resul
 
 #[test]
 fn texts_are_read_record_by_record(rt: HostRuntime) -> Result<(), Fail> {
-    let rows: [(&[u8], &str); 24] = [
+    let cases: [(&[u8], &str); 24] = [
         (b"wkt\nPOINT(1 2)\n", " 1:1.0.0"),
         (b"wkt\nPOINT(1 2)", " 1:1.0.0"),
         (b"wkt\r\nPOINT(1 2)\r\nPOINT(3 4)\r\n", " 1:1.0.0 2:1.0.0"),
@@ -109,7 +109,7 @@ fn texts_are_read_record_by_record(rt: HostRuntime) -> Result<(), Fail> {
         (b"wkt,a\nx,1\n\xC3,2\n", "NotUtf8(2)"),
         (b"wkt,a\n\xC3\nx,1\n", "Uneven(1)"),
     ];
-    for (bytes, want) in rows {
+    for (bytes, want) in cases {
         let read = found(rt.alloc(), bytes, Delimiter::Comma, WIDE)?;
         assert_eq!(rt; read.as_str(), want);
     }
@@ -118,7 +118,7 @@ fn texts_are_read_record_by_record(rt: HostRuntime) -> Result<(), Fail> {
 
 #[test]
 fn delimiters_stand_between_fields(rt: HostRuntime) -> Result<(), Fail> {
-    let rows: [(&[u8], Delimiter, &str); 4] = [
+    let cases: [(&[u8], Delimiter, &str); 4] = [
         (
             b"a;wkt\n1,5;POINT(1 2)\n",
             Delimiter::Semicolon,
@@ -132,7 +132,7 @@ fn delimiters_stand_between_fields(rt: HostRuntime) -> Result<(), Fail> {
         (b"a;wkt\n", Delimiter::Comma, "NoGeometryColumn"),
         (b"a\twkt\n", Delimiter::Semicolon, "NoGeometryColumn"),
     ];
-    for (bytes, delimiter, want) in rows {
+    for (bytes, delimiter, want) in cases {
         let read = found(rt.alloc(), bytes, delimiter, WIDE)?;
         assert_eq!(rt; read.as_str(), want);
     }
@@ -151,14 +151,14 @@ fn room(features: u32, vertices: u32, values: u32) -> Room {
 fn room_is_met_at_its_edge(rt: HostRuntime) -> Result<(), Fail> {
     let two = b"wkt,a,b\n\"LINESTRING(0 0,1 1,2 2)\",1,2\nPOINT(1 2),3,4\n";
     let whole = "a|b| 1:0.1.0|1|2 2:1.0.0|3|4";
-    let rows = [
+    let cases = [
         (room(2, 4, 4), whole),
         (room(1, 4, 4), "TooMany"),
         (room(2, 3, 4), "TooMany"),
         (room(2, 4, 3), "TooMany"),
         (room(0, 0, 0), "TooMany"),
     ];
-    for (room, want) in rows {
+    for (room, want) in cases {
         let read = found(rt.alloc(), two, Delimiter::Comma, room)?;
         assert_eq!(rt; read.as_str(), want);
     }

@@ -1,8 +1,11 @@
 -- What the proofs of this crate share.
-pub mod Products
-pub mod Bools
-pub mod Crossings
-pub mod Places
-pub mod Causes
+pub mod ProductLemmas
+pub mod BoolLemmas
+pub mod CrossingLemmas
+pub mod PositionLemmas
+pub mod CauseLemmas
 pub mod TilingLemmas
 pub mod ViewLemmas
+pub mod FallLemmas
+pub mod SpanLemmas
+pub mod CentreLemmas

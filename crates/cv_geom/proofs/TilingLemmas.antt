@@ -18,14 +18,17 @@ crosses_alike p a b = by (is_low p a) (is_low p b)
     down : Bool
     down = passes_right p b a
 
-    by : (x y : Bool) → (if x then (if y then false else up) else (if y then down else false)) ≡ (if y then (if x then false else down) else (if x then up else false))
+    by :
+        (x y : Bool)
+        → (if x then (if y then false else up) else (if y then down else false)) ≡ (if y then (if x then false else down) else (if x then up else false))
     by true true = refl
     by true false = refl
     by false true = refl
     by false false = refl
 
 -- the same edge crosses alike in both directions
-is_crossed-same : (p : Position) (e f : Position × Position) → IsSameEdge e f → is_crossed p e ≡ is_crossed p f
+is_crossed-same :
+    (p : Position) (e f : Position × Position) → IsSameEdge e f → is_crossed p e ≡ is_crossed p f
 is_crossed-same p e f (inl same) = ap (is_crossed p) same
 is_crossed-same p e f (inr back) = ap (is_crossed p) back ∙ crosses_alike p (doubled f.1) (doubled f.0)
 
@@ -33,7 +36,10 @@ is_crossed-same p e f (inr back) = ap (is_crossed p) back ∙ crosses_alike p (d
 abbrev once : Position → Position × Position → ℕ
 once p e = cond (is_crossed p e) 1 0
 
-crossings-pairwise : (p : Position) (es fs : List (Position × Position)) → ArePairwiseSame es fs → crossings p es ≡ crossings p fs
+-- edges that are pairwise the same cross alike
+crossings-pairwise :
+    (p : Position) (es fs : List (Position × Position)) → ArePairwiseSame es fs
+    → crossings p es ≡ crossings p fs
 crossings-pairwise p [] [] same = refl
 crossings-pairwise p [] (f ∷ fs) same = absurd same
 crossings-pairwise p (e ∷ es) [] same = absurd same
@@ -43,7 +49,10 @@ crossings-pairwise p (e ∷ es) (f ∷ fs) same =
     let sum : once p e + crossings p es ≡ once p f + crossings p fs = cc in
     sum_by-cons (once p) e es ∙ sum ∙ sym (sum_by-cons (once p) f fs)
 
-crossings-same : (p : Position) (es fs : List (Position × Position)) → HaveSameEdges es fs → crossings p es ≡ crossings p fs
+-- the same edges in any order cross alike
+crossings-same :
+    (p : Position) (es fs : List (Position × Position)) → HaveSameEdges es fs
+    → crossings p es ≡ crossings p fs
 crossings-same p es fs (gs, moved, same) =
     sym (sum_by-IsPermutation (once p) es gs moved) ∙ crossings-pairwise p gs fs same
 
@@ -51,7 +60,10 @@ crossings-same p es fs (gs, moved, same) =
 parity_of_sums : (a b s : ℕ) → ((a + b) % 2 == 1) ≡ exactly_one ((a + s) % 2 == 1) ((b + s) % 2 == 1)
 parity_of_sums a b s = grind (arith, nat_tests)
 
-pub is_inside-united : (a b c : List (List Position)) (p : Position) → Unites a b c → is_inside p c ≡ exactly_one (is_inside p a) (is_inside p b)
+-- a position is inside a union where it is inside exactly one of the two
+pub is_inside-united :
+    (a b c : List (List Position)) (p : Position) → Unites a b c
+    → is_inside p c ≡ exactly_one (is_inside p a) (is_inside p b)
 is_inside-united a b c p united =
     let own_a = crossings p united.own_a in
     let own_b = crossings p united.own_b in
@@ -62,7 +74,8 @@ is_inside-united a b c p united =
     rw (of_a, of_b, of_c) (parity_of_sums own_a own_b shared)
 
 -- two tests that don't hold together hold as often as one of them does
-pub counted_once : (x y : Bool) → (x && y) ≡ false → 0 + cond x 1 0 + cond y 1 0 ≡ (if exactly_one x y then 1 else 0)
+pub counted_once :
+    (x y : Bool) → (x && y) ≡ false → 0 + cond x 1 0 + cond y 1 0 ≡ (if exactly_one x y then 1 else 0)
 counted_once x y apart = grind arith
 
 -- a list has its own edges
@@ -73,6 +86,7 @@ own_edges es = (es, IsPermutation-refl es, alike es)
     alike [] = tt
     alike (f ∷ fs) = (inl refl, alike fs)
 
+-- two squares side by side have a rectangle as their union
 pub squares_unite : SquaresUnite
 squares_unite =
     let own_a = (corner 2 2, corner 0 2) ∷ (corner 0 2, corner 0 0) ∷ (corner 0 0, corner 2 0) ∷ [] in

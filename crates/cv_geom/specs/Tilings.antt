@@ -1,4 +1,5 @@
--- Polygons side by side: an edge that two polygons share cancels, so that no centre on it is in both or in neither.
+-- Polygons side by side: an edge that two polygons share cancels, so that no centre on it is in both
+-- or in neither.
 use Rattle.std.specs.Prelude.{ℕ, ◌≡◌, pos, Bool, false, not, ◌&&◌, if◌then◌else◌, ◌⊎◌, List, [], ◌∷◌, ◌++◌, count_by, IsPermutation}
 use Rattle.std.specs.List.{flat_map}
 use Rattle.cv_model.specs.Positions.{Position}
@@ -42,7 +43,7 @@ SharedEdgesCancel =
     (a b c : List (List Position)) (p : Position) → Unites a b c
     → is_inside p c ≡ exactly_one (is_inside p a) (is_inside p b)
 
--- where two polygons don't overlap, a position inside their union is inside one of them, and any other in none
+-- where two polygons don't overlap, a position inside their union is inside one of them, any other in none
 abbrev pub TilesCoverOnce : Type 0
 TilesCoverOnce =
     (a b c : List (List Position)) (p : Position) → Unites a b c → (is_inside p a && is_inside p b) ≡ false

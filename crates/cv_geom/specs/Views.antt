@@ -1,6 +1,7 @@
 -- Views: the view of an extent or why there is none, and views moved and scaled.
 --
--- Source: this project's own view, in whole millionths; a pixel's side is rounded upwards, so that the extent is shown whole.
+-- Source: this project's own view, in whole millionths; a pixel's side is rounded upwards, so that the
+-- extent is shown whole.
 use Rattle.std.specs.Prelude.{ℕ, max, ◌≡◌, ◌*◌, ◌<◌, ◌≤◌, nat_le, ℤ, pos, negsuc, ◌+ℤ◌, ◌-ℤ◌, ◌*ℤ◌, ◌<ℤ◌, ◌≤ℤ◌, int_lt, int_le, Bool, ◌&&◌, if◌then◌else◌, ◌⊎◌, Result, Ok, Err}
 use Rattle.cv_model.specs.Positions.{Rectangle}
 use Rattle.cv_model.specs.Views.{PixelGrid, natural, ceiling, grid_of}

@@ -18,13 +18,13 @@ pub fn centre(view: &View, i: u32, j: u32) -> Point2
 }
 
 /// How far the centre of pixel `at` of a side lies from the edge before pixel 0, in doubled millionths.
-fn offset(at: u32, side: u32, u: i64) -> i64
-    requires within { at < side }
-    requires unit { pos 1 ≤ℤ u }
-    requires span { (pos (2 * side) *ℤ u) ≤ℤ pos 8000000000000000 }
+fn offset(at: u32, pixels: u32, u: i64) -> i64
+    requires within { at < pixels }
+    requires side { pos 1 ≤ℤ u }
+    requires span { (pos (2 * pixels) *ℤ u) ≤ℤ pos 8000000000000000 }
     ensures value { result ≡ pos (2 * at + 1) *ℤ u }
     ensures low { pos 0 ≤ℤ result }
-    ensures high { result ≤ℤ (pos (2 * side) *ℤ u) }
+    ensures high { result ≤ℤ (pos (2 * pixels) *ℤ u) }
 {
     half_pixels(at) * u
 }

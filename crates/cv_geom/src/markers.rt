@@ -4,7 +4,7 @@ ghost use Rattle.std.specs.Prelude.{◌≡◌, ◌^◌, pos, negsuc, ◌+ℤ◌,
 ghost use Rattle.cv_model.specs.Pens.{IsRadius};
 ghost use Rattle.cv_model.specs.Markers.{covers, is_marked};
 
-use crate::measures::{product, reach};
+use crate::measures::{distance_to, product};
 use cv_model::{Point, Point2, Shape};
 
 /// Whether the marker of radius `r` on a point covers a position; `r` and the position are in doubled
@@ -13,7 +13,7 @@ pub fn marked(shape: Shape, at: Point, p: Point2, r: i64) -> bool
     requires { IsRadius r }
     ensures { result ≡ is_marked shape r p at }
 {
-    covers(shape, reach(at.x, p.x), reach(at.y, p.y), r)
+    covers(shape, distance_to(at.x, p.x), distance_to(at.y, p.y), r)
 }
 
 /// Whether the position that is `dx` and `dy` away from its middle lies within a shape of radius `r`.

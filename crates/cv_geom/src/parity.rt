@@ -4,7 +4,7 @@ ghost use Rattle.std.specs.Prelude.{◌≡◌, ◌==◌, ◌%◌};
 ghost use Rattle.cv_model.specs.Positions.{doubled};
 ghost use Rattle.cv_model.specs.Polygons.{is_low, passes_right, crossings, edges, is_inside};
 
-use crate::measures::{distance, product, reach};
+use crate::measures::{distance, distance_to, product};
 use cv_model::{Point, Point2, Polygon};
 
 /// Whether a position lies inside a polygon: an odd number of the edges of all its rings crosses
@@ -51,17 +51,17 @@ fn is_crossed_oddly(points: &[Point], p: Point2) -> bool
 }
 
 /// Whether a point stands at a height of at most that of `p`.
-fn is_low(a: Point, p: Point2) -> bool
+pub fn is_low(a: Point, p: Point2) -> bool
     ensures { result ≡ is_low p (doubled a) }
 {
     2 * a.y <= p.y
 }
 
 /// Whether the line from `a` up to `b` passes the height of `p` strictly right of it.
-fn passes_right(a: Point, b: Point, p: Point2) -> bool
+pub fn passes_right(a: Point, b: Point, p: Point2) -> bool
     ensures { result ≡ passes_right p (doubled a) (doubled b) }
 {
-    let left = product(reach(a.x, p.x), distance(a.y, b.y));
-    let right = product(distance(a.x, b.x), reach(a.y, p.y));
+    let left = product(distance_to(a.x, p.x), distance(a.y, b.y));
+    let right = product(distance(a.x, b.x), distance_to(a.y, p.y));
     left < right
 }

@@ -37,7 +37,7 @@ fn overlaps_across(a: Point, b: Point, p: Point2, r: i64) -> bool
 }
 
 /// Whether a segment and a square overlap from bottom to top.
-fn overlaps_upwards(a: Point, b: Point, p: Point2, r: i64) -> bool
+pub fn overlaps_upwards(a: Point, b: Point, p: Point2, r: i64) -> bool
     requires { IsRadius r }
     ensures { result ≡ overlaps r p.y (doubled a).y (doubled b).y }
 {
@@ -56,7 +56,7 @@ fn overlaps(a: i64, b: i64, p: i64, r: i64) -> bool
 }
 
 /// Whether the stretch between two coordinates begins at `p + r` or before.
-fn begins_before(a: i64, b: i64, p: i64, r: i64) -> bool
+pub fn begins_before(a: i64, b: i64, p: i64, r: i64) -> bool
     requires a_in { IsCoordinate a }
     requires b_in { IsCoordinate b }
     requires p_in { IsDoubled p }
@@ -67,7 +67,7 @@ fn begins_before(a: i64, b: i64, p: i64, r: i64) -> bool
 }
 
 /// Whether the stretch between two coordinates ends at `p - r` or behind.
-fn ends_behind(a: i64, b: i64, p: i64, r: i64) -> bool
+pub fn ends_behind(a: i64, b: i64, p: i64, r: i64) -> bool
     requires a_in { IsCoordinate a }
     requires b_in { IsCoordinate b }
     requires p_in { IsDoubled p }

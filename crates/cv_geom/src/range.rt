@@ -11,7 +11,7 @@ use cv_model::View;
 
 /// The view of these parts, if its edges are in range.
 pub fn kept(lx2: i128, ty2: i128, u: i64, w: u32, h: u32) -> Result<View, ViewError>
-    requires unit { pos 1 ≤ℤ u }
+    requires side { pos 1 ≤ℤ u }
     requires wide { 1 ≤ w }
     requires high { 1 ≤ h }
     ensures { result ≡ kept (record { lx2 = lx2; ty2 = ty2; u = u; w = w; h = h }) }

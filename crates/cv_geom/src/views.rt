@@ -128,7 +128,7 @@ fn scaled_side(view: &View, num: u32, den: u32) -> i64
     requires num_in { IsZoomPart num }
     requires den_in { IsZoomPart den }
     ensures value { result ≡ pos (scaled_side view.now.u num den) }
-    ensures unit { pos 1 ≤ℤ result }
+    ensures side { pos 1 ≤ℤ result }
 {
     1.max(ceiling(side(view) * u64::from(num), u64::from(den))) as i64
 }
@@ -160,7 +160,7 @@ fn pixel_side(extent: Extent, w: u32, h: u32) -> i64
     requires wide { 1 ≤ w }
     requires high { 1 ≤ h }
     ensures value { result ≡ pos (pixel_side extent w h) }
-    ensures unit { pos 1 ≤ℤ result }
+    ensures side { pos 1 ≤ℤ result }
 {
     let across = share(extent.xmin, extent.xmax, w);
     let down = share(extent.ymin, extent.ymax, h);

@@ -28,8 +28,8 @@ fn push_pixels(bytes: &mut Vec<u8>, pixels: &[Rgb]) -> Result<(), NoMemory>
     Ok(())
 }
 
-/// The bytes of a picture in the portable pixmap format: `P6`, the width and the height in pixels, the greatest value
-/// 255, and three bytes a pixel, row by row from the top.
+/// The bytes of a picture in the portable pixmap format: `P6`, the width and the height in pixels, the
+/// greatest value 255, and three bytes a pixel, row by row from the top.
 ///
 /// Source: the PPM format of the Netpbm project, its form P6.
 #[tactic(auto, unfolding(cv_model::specs::Rasters::ppm_of))]

@@ -3,3 +3,4 @@ pub mod Rows
 pub mod EditLemmas
 pub mod LawLemmas
 pub mod WorkedValues
+pub mod WorkedEdits

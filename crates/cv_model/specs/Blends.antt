@@ -1,13 +1,16 @@
 -- Blending: a layer's colour merged onto an opaque backdrop.
 --
--- Source: W3C Compositing and Blending Level 1 (blending over an opaque backdrop), in whole numbers; each division rounds to
--- the nearest, a half upwards. Channels are 0 to 255: cb is the backdrop's, cs the source's.
+-- Source: W3C Compositing and Blending Level 1 (blending over an opaque backdrop), in whole numbers; each
+-- division rounds to the nearest, a half upwards. Channels are 0 to 255: cb is the backdrop's, cs the
+-- source's.
 use Rattle.std.specs.Prelude.{ℕ, ◌+◌, ◌-◌, ◌*◌, ◌==◌, nat_le, min, max, if◌then◌else◌, List, fold}
 use Rattle.cv_number.specs.Rounding.{rnd}
 use Rattle.cv_model.specs.declared.colour.Rgb.{Rgb}
 use Rattle.cv_model.specs.declared.colour.Rgba.{Rgba}
 use Rattle.cv_model.specs.declared.blend.Blend.{Blend}
-use Rattle.cv_model.specs.declared.blend.Blend.TheVariants.{Normal, Multiply, Screen, Overlay, Darken, Lighten, ColorDodge, ColorBurn, HardLight, Difference, Exclusion, Addition}
+use Rattle.cv_model.specs.declared.blend.Blend.TheVariants.{Normal, Multiply, Screen, Overlay, Darken}
+use Rattle.cv_model.specs.declared.blend.Blend.TheVariants.{Lighten, ColorDodge, ColorBurn, HardLight}
+use Rattle.cv_model.specs.declared.blend.Blend.TheVariants.{Difference, Exclusion, Addition}
 
 abbrev pub multiply : ℕ → ℕ → ℕ
 multiply cb cs = rnd (cb * cs) 255
@@ -16,7 +19,7 @@ multiply cb cs = rnd (cb * cs) 255
 abbrev pub screen : ℕ → ℕ → ℕ
 screen cb cs = rnd (255 * (cb + cs) - cb * cs) 255
 
--- multiply by a source below the middle, screen by one above it, each by twice its distance from the end
+-- multiply by twice a source up to the middle, screen by twice what a source has above the middle
 abbrev pub hard_light : ℕ → ℕ → ℕ
 hard_light cb cs = if nat_le (2 * cs) 255 then multiply cb (2 * cs) else screen cb (2 * cs - 255)
 
@@ -39,7 +42,8 @@ exclusion cb cs = rnd (255 * (cb + cs) - 2 * (cb * cs)) 255
 abbrev pub mixed : ℕ → ℕ → ℕ → ℕ
 mixed a cb c = rnd ((255 - a) * cb + a * c) 255
 
--- a source's channel of effective alpha a, merged onto a backdrop's; an addition is weighed by the alpha and then capped
+-- a source's channel of effective alpha a, merged onto a backdrop's; an addition is weighed by the alpha
+-- and then capped
 abbrev pub channel_merged : Blend → ℕ → ℕ → ℕ → ℕ
 channel_merged Normal a cb cs = mixed a cb cs
 channel_merged Multiply a cb cs = mixed a cb (multiply cb cs)

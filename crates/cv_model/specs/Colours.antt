@@ -1,7 +1,7 @@
 -- Colours: one laid over another.
 --
--- Source: W3C Compositing and Blending Level 1 (source-over), in whole numbers; each division rounds to the nearest, a
--- half upwards.
+-- Source: W3C Compositing and Blending Level 1 (source-over), in whole numbers; each division rounds to the
+-- nearest, a half upwards.
 use Rattle.std.specs.Prelude.{ℕ, ◌+◌, ◌-◌, ◌*◌, ◌==◌, if◌then◌else◌, List, fold}
 use Rattle.cv_model.specs.declared.colour.Rgb.{Rgb}
 use Rattle.cv_model.specs.declared.colour.Rgba.{Rgba}

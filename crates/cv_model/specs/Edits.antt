@@ -1,18 +1,30 @@
 -- Edits: which are refused and why, and what the accepted ones change.
-use Rattle.std.specs.Prelude.{ℕ, suc, ◌+◌, ◌*◌, ◌==◌, nat_lt, nat_le, nat_eq, Bool, true, false, not, ◌&&◌, ◌||◌, if◌then◌else◌, List, [], ◌∷◌, ◌++◌, map, filter, find, position, insert, set, length, sum_by, take, fold, bytes_eq, Option, Some, None, option_map, is_none}
+--
+-- Source: this project's own.
+use Rattle.std.specs.Prelude.{ℕ, suc, ◌+◌, ◌*◌, ◌==◌, nat_lt, nat_le, nat_eq, Bool, true, false, not, ◌&&◌}
+use Rattle.std.specs.Prelude.{◌||◌, if◌then◌else◌, List, [], ◌∷◌, ◌++◌, map, filter, find, position, insert}
+use Rattle.std.specs.Prelude.{set, length, sum_by, take, fold, bytes_eq, Option, Some, None, option_map}
+use Rattle.std.specs.Prelude.{is_none}
 use Rattle.std.specs.List.{list_any}
 use Rattle.std.specs.Option.{option_map_or}
 use Rattle.cv_model.specs.declared.colour.Rgb.{Rgb}
 use Rattle.cv_model.specs.declared.edit.Edit.{Edit}
-use Rattle.cv_model.specs.declared.edit.Edit.TheVariants.{AddFeature, InsertFeature, RemoveFeature, SetGeometry, SetAttribute, SetCell, SetStyle, SetMask, SetJoin, AddLayer, RemoveLayer, SetOpacity, SetBlend, SetVisible, SetScales, MoveLayer, SetBackground}
+use Rattle.cv_model.specs.declared.edit.Edit.TheVariants.{AddFeature, InsertFeature, RemoveFeature}
+use Rattle.cv_model.specs.declared.edit.Edit.TheVariants.{SetGeometry, SetAttribute, SetCell, SetStyle}
+use Rattle.cv_model.specs.declared.edit.Edit.TheVariants.{SetMask, SetJoin, AddLayer, RemoveLayer}
+use Rattle.cv_model.specs.declared.edit.Edit.TheVariants.{SetOpacity, SetBlend, SetVisible, SetScales}
+use Rattle.cv_model.specs.declared.edit.Edit.TheVariants.{MoveLayer, SetBackground}
 use Rattle.cv_model.specs.declared.edit.EditError.{EditError}
-use Rattle.cv_model.specs.declared.edit.EditError.TheVariants.{UnknownLayer, UnknownFeature, WrongKind, DuplicateId, Limit, BadPlace}
+use Rattle.cv_model.specs.declared.edit.EditError.TheVariants.{UnknownLayer, UnknownFeature, WrongKind}
+use Rattle.cv_model.specs.declared.edit.EditError.TheVariants.{DuplicateId, Limit, BadPlace}
 use Rattle.cv_model.specs.declared.feature.Feature.{Feature}
 use Rattle.cv_model.specs.declared.grid.Cell.{Cell}
 use Rattle.cv_model.specs.declared.style.Style.{Style}
 use Rattle.cv_model.specs.Geometries.{vertices_of}
 use Rattle.cv_model.specs.Grids.{CellGrid}
-use Rattle.cv_model.specs.Layers.{Contents, Features, Cells, Core, Layer, Project, is_layer, has_layer, core_in, contents_of, layer_of_new}
+use Rattle.cv_model.specs.Layers.{Contents, Features, Cells, Core, Layer, Project, is_layer, has_layer}
+use Rattle.cv_model.specs.Layers.{core_in, deps, contents_of, layer_of_new}
+use Rattle.cv_model.specs.Paintings.{Stamp}
 use Rattle.cv_model.specs.ProjectFiles.{is_ramp}
 
 -- ---- what an edit names
@@ -37,7 +49,7 @@ named_layer (SetScales layer scales) = Some layer
 named_layer (MoveLayer layer place) = Some layer
 named_layer (SetBackground colour) = None
 
--- the layer whose core an edit changes: that of a data or layer edit; a frame edit changes none
+-- the layer that a data or layer edit names; a frame edit touches none
 abbrev pub touched : Edit → Option ℕ
 touched (AddFeature layer feature) = Some layer
 touched (InsertFeature layer at feature) = Some layer
@@ -66,11 +78,13 @@ touches_any edit ids = option_map_or (λ id. list_any (nat_eq id) ids) (touched 
 -- a change of the core of the layer with this id
 abbrev pub change_core : ℕ → (Core → Core) → List Layer → List Layer
 change_core id change layers =
-    map (λ (layer : Layer). if is_layer id layer then record layer { core = change layer.core } else layer) layers
+    map (λ (layer : Layer). if is_layer id layer then record layer { core = change layer.core } else layer)
+    layers
 
 -- a change of that layer besides its core
 abbrev pub change_layer : ℕ → (Layer → Layer) → List Layer → List Layer
-change_layer id change layers = map (λ (layer : Layer). if is_layer id layer then change layer else layer) layers
+change_layer id change layers = map (λ (layer : Layer). if is_layer id layer then change layer else layer)
+    layers
 
 -- a change of the features of a text layer; a grid stays
 abbrev pub with_features : (List Feature → List Feature) → Contents → Contents
@@ -82,6 +96,7 @@ abbrev pub with_cells : (CellGrid → List Cell) → Contents → Contents
 with_cells change (Features columns features) = Features columns features
 with_cells change (Cells grid) = Cells (record grid { cells = (change grid) })
 
+-- the core with another list of features, or of cells
 abbrev pub change_features : (List Feature → List Feature) → Core → Core
 change_features change core = record core { contents = (with_features change core.contents) }
 
@@ -103,13 +118,15 @@ without_feature id features = filter (λ feature. not (is_feature id feature)) f
 
 -- the values of a feature with another text in the first column of this name
 abbrev pub with_text : List (List ℕ) → List ℕ → List ℕ → List (List ℕ) → List (List ℕ)
-with_text columns column value values = option_map_or (λ k. set values k value) (position (bytes_eq column) columns) values
+with_text columns column value values =
+    option_map_or (λ k. set values k value) (position (bytes_eq column) columns) values
 
 -- another text in the first column of this name, of the feature with this id
 abbrev pub with_attribute : ℕ → List ℕ → List ℕ → Contents → Contents
 with_attribute id column value (Features columns features) =
     Features columns
-    (change_feature id (λ feature. record feature { values = (with_text columns column value feature.values) }) features)
+    (change_feature id
+    (λ feature. record feature { values = (with_text columns column value feature.values) }) features)
 with_attribute id column value (Cells grid) = Cells grid
 
 -- the layers without the one of this id
@@ -132,7 +149,8 @@ step_layers layers (SetGeometry layer id geometry) =
     change_core layer
     (change_features (change_feature id (λ feature. record feature { geometry = geometry }))) layers
 step_layers layers (SetAttribute layer id column value) =
-    change_core layer (λ core. record core { contents = (with_attribute id column value core.contents) }) layers
+    change_core layer (λ core. record core { contents = (with_attribute id column value core.contents) })
+    layers
 step_layers layers (SetCell layer row col cell) =
     change_core layer (change_cells (λ grid. set grid.cells (row * grid.cols + col) cell)) layers
 step_layers layers (SetStyle layer style) = change_core layer (λ core. record core { style = style }) layers
@@ -140,9 +158,11 @@ step_layers layers (SetMask layer mask) = change_core layer (λ core. record cor
 step_layers layers (SetJoin layer join) = change_core layer (λ core. record core { join = join }) layers
 step_layers layers (AddLayer place layer) = insert layers place (layer_of_new layer)
 step_layers layers (RemoveLayer layer) = without_layer layer layers
-step_layers layers (SetOpacity layer opacity) = change_layer layer (λ l. record l { opacity = opacity }) layers
+step_layers layers (SetOpacity layer opacity) = change_layer layer (λ l. record l { opacity = opacity })
+    layers
 step_layers layers (SetBlend layer blend) = change_layer layer (λ l. record l { blend = blend }) layers
-step_layers layers (SetVisible layer visible) = change_layer layer (λ l. record l { visible = visible }) layers
+step_layers layers (SetVisible layer visible) = change_layer layer (λ l. record l { visible = visible })
+    layers
 step_layers layers (SetScales layer scales) = change_layer layer (λ l. record l { scales = scales }) layers
 step_layers layers (MoveLayer layer place) = moved layer place layers
 step_layers layers (SetBackground colour) = layers
@@ -165,14 +185,16 @@ project_at project edits n = fold step project (take n edits)
 
 -- ---- limits
 
--- how many features a layer's contents have, how many vertices, how many attribute values and how many cells
+-- the features of contents; a grid has none
 abbrev pub features_of : Contents → List Feature
 features_of (Features columns features) = features
 features_of (Cells grid) = []
 
+-- the vertices of a feature's geometry
 abbrev pub feature_vertices : Feature → ℕ
 feature_vertices feature = option_map_or vertices_of feature.geometry 0
 
+-- how many cells contents have
 abbrev pub cells_of : Contents → ℕ
 cells_of (Features columns features) = 0
 cells_of (Cells grid) = length grid.cells
@@ -181,6 +203,7 @@ cells_of (Cells grid) = length grid.cells
 abbrev pub total : (Contents → ℕ) → List Layer → ℕ
 total count layers = sum_by (λ (layer : Layer). count layer.core.contents) layers
 
+-- how many features, how many vertices, and how many attribute values contents have
 abbrev pub count_features : Contents → ℕ
 count_features contents = length (features_of contents)
 
@@ -190,8 +213,8 @@ count_vertices contents = sum_by feature_vertices (features_of contents)
 abbrev pub count_values : Contents → ℕ
 count_values contents = sum_by (λ (feature : Feature). length feature.values) (features_of contents)
 
--- layers pass a limit: 32 of them; 1,000,000 features, 4,000,000 vertices, 16,000,000 attribute values, 64,000,000 cells in
--- all; 16,000,000 cells of one grid
+-- layers pass a limit: 32 of them; 1,000,000 features, 4,000,000 vertices, 16,000,000 attribute values,
+-- 64,000,000 cells in all; 16,000,000 cells of one grid
 unfoldable pub is_over : List Layer → Bool
 is_over layers =
     nat_lt 32 (length layers)
@@ -304,7 +327,8 @@ is_bad_place layers _ = false
 
 -- the first cause whose test holds
 abbrev pub first_refusal : List (Bool × EditError) → Option EditError
-first_refusal tests = option_map (λ (test : Bool × EditError). test.1) (find (λ (test : Bool × EditError). test.0) tests)
+first_refusal tests =
+    option_map (λ (test : Bool × EditError). test.1) (find (λ (test : Bool × EditError). test.0) tests)
 
 -- why an edit is refused, or nothing where it is accepted
 unfoldable pub verdict : Project → ℕ → Edit → Option EditError
@@ -317,7 +341,11 @@ verdict project accepted edit =
     ∷ (passes_limit project.layers accepted edit, Limit)
     ∷ (is_bad_place project.layers edit, BadPlace) ∷ [])
 
--- ---- revisions
+-- ---- versions, revisions and stamps
+
+-- the version of a store after these accepted edits
+abbrev pub version : List Edit → ℕ
+version edits = suc (length edits)
 
 -- how many of these edits there are up to the last that touches the layer, or 0 where none does
 abbrev pub last_touch : ℕ → List Edit → ℕ
@@ -327,7 +355,14 @@ last_touch id (edit ∷ rest) =
     else if touches_any edit (id ∷ []) then 1
     else 0
 
--- the revision of a layer after these accepted edits: 0 where it isn't there, else one more than the number of the last
--- edit that touches it, and 1 where none does
+-- the revision of a layer after these accepted edits: 0 where it isn't there, else one more than the number
+-- of the last edit that touches it, and 1 where none does
 abbrev pub revision : Project → List Edit → ℕ → ℕ
-revision project edits id = if has_layer id (fold step project edits).layers then suc (last_touch id edits) else 0
+revision project edits id = if has_layer id (fold step project edits).layers then suc (last_touch id edits)
+    else 0
+
+-- the stamps of a layer after these edits: its dependencies with their revisions, in order
+abbrev pub stamps : Project → List Edit → ℕ → List Stamp
+stamps project edits id =
+    map (λ dep. record { id = dep; revision = revision project edits dep }) (deps (fold step project edits)
+    id)

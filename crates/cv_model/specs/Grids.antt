@@ -1,13 +1,15 @@
 -- Grids: a number for each cell of a rectangle, and the cell that holds a position.
 --
--- Source: the ASCII grid after ESRI's, in outline; that a cell owns its left and bottom border is this project's rule.
-use Rattle.std.specs.Prelude.{◌≡◌, ℕ, ◌+◌, ◌-◌, ◌*◌, ◌/◌, ◌≤◌, nat_lt, if◌then◌else◌, ℤ, pos, negsuc, ◌+ℤ◌, ◌≤ℤ◌, int_lt, List, length, slice_get, Option, Some, None, option_and_then}
+-- Source: the ASCII grid after ESRI's, in outline; that a cell owns its left and bottom border is this
+-- project's rule.
+use Rattle.std.specs.Prelude.{◌≡◌, ℕ, ◌+◌, ◌-◌, ◌*◌, ◌/◌, ◌≤◌, nat_lt, if◌then◌else◌, ℤ, pos, negsuc, ◌+ℤ◌}
+use Rattle.std.specs.Prelude.{◌≤ℤ◌, int_lt, List, length, slice_get, Option, Some, None, option_and_then}
 use Rattle.cv_model.specs.declared.grid.Cell.{Cell}
 use Rattle.cv_model.specs.Views.{rise}
 use Rattle.cv_model.specs.Positions.{Position}
 
--- columns and rows, the left and bottom edge in doubled millionths, the sides of a cell in millionths, and the cells,
--- the northernmost row first and each row from the west
+-- columns and rows, the left and bottom edge in doubled millionths, the sides of a cell in millionths, and
+-- the cells, the northernmost row first and each row from the west
 pub record CellGrid : Type 0 where
   pub cols : ℕ
   pub rows : ℕ

@@ -1,4 +1,5 @@
--- What holds of edits, parts and pictures whatever the project: laws, each the clause of a function of its name.
+-- What holds of edits, parts and pictures whatever the project: laws, each the clause of a function of its
+-- name.
 use Rattle.std.specs.Prelude.{◌≡◌, ℕ, ◌<◌, false, List, [], ◌∷◌, Some, None}
 use Rattle.cv_model.specs.declared.blend.Blend.TheVariants.{Normal}
 use Rattle.cv_model.specs.declared.colour.Rgb.{Rgb}
@@ -21,7 +22,8 @@ UntouchedPartsStay =
 -- an edit that touches no layer leaves the parts of all
 abbrev pub FrameEditsLeaveParts : Type 0
 FrameEditsLeaveParts =
-    (project : Project) (edit : Edit) (id : ℕ) → touched edit ≡ None → parts (step project edit) id ≡ parts project id
+    (project : Project) (edit : Edit) (id : ℕ) → touched edit ≡ None
+    → parts (step project edit) id ≡ parts project id
 
 -- an edit that doesn't touch a layer leaves the ids on which the layer depends
 abbrev pub UntouchedDepsStay : Type 0
@@ -39,13 +41,15 @@ AbsentMasksShowAll =
 -- a join whose layer isn't there gives no text, as no join does
 abbrev pub AbsentJoinsGiveNothing : Type 0
 AbsentJoinsGiveNothing =
-    (layers : List Layer) (own : Core) (join : Join) (view : PixelGrid) (i j : ℕ) → core_in layers join.layer ≡ None
+    (layers : List Layer) (own : Core) (join : Join) (view : PixelGrid) (i j : ℕ)
+    → core_in layers join.layer ≡ None
     → pixel (parts_among layers (record own { join = Some join })) view i j
     ≡ pixel (parts_among layers (record own { join = None })) view i j
 
 -- the picture of no layers is the background
 abbrev pub EmptyPictureIsBackground : Type 0
-EmptyPictureIsBackground = (project : Project) (view : PixelGrid) (i j : ℕ) → colour_of project [] view i j ≡ project.background
+EmptyPictureIsBackground = (project : Project) (view : PixelGrid) (i j : ℕ)
+    → colour_of project [] view i j ≡ project.background
 
 -- an opaque colour merged in normal mode at full opacity hides the backdrop
 abbrev pub OpaqueHidesBackdrop : Type 0

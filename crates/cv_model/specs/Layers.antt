@@ -1,5 +1,9 @@
 -- A project: its background and its layers.
-use Rattle.std.specs.Prelude.{ℕ, Bool, ◌==◌, ◌&&◌, List, [], ◌∷◌, ◌++◌, filter, reverse, find, Option, option_map, option_and_then}
+--
+-- Source: in outline the developer documentation of QGIS (`QgsMapSettings`, `QgsMapRendererParallelJob`): layers top first,
+-- an image for each, opacity and blend mode at composition. Masks and joins are this project's own.
+use Rattle.std.specs.Prelude.{ℕ, Bool, ◌==◌, ◌&&◌, List, [], ◌∷◌, ◌++◌, filter, reverse, find, Option}
+use Rattle.std.specs.Prelude.{option_map, option_and_then}
 use Rattle.std.specs.List.{list_any}
 use Rattle.std.specs.Option.{option_to_list, option_map_or}
 use Rattle.cv_model.specs.declared.blend.Blend.{Blend}
@@ -15,7 +19,8 @@ use Rattle.cv_model.specs.Grids.{CellGrid}
 use Rattle.cv_model.specs.Scales.{ScaleBounds, holds_scale}
 use Rattle.cv_model.specs.Views.{PixelGrid}
 
--- what a layer holds: features with the names of their columns, or a grid; the notes of a reader are no part of it
+-- what a layer holds: features with the names of their columns, or a grid; the notes of a reader are no
+-- part of it
 pub data Contents : Type 0 where
   Features : (columns : List (List ℕ)) (features : List Feature) → Contents
   Cells : (grid : CellGrid) → Contents
@@ -55,7 +60,14 @@ contents_of (Grid grid) = Cells grid
 -- the layer that a new one becomes
 abbrev pub layer_of_new : NewLayer → Layer
 layer_of_new n = record {
-  core = record { id = n.id; mask = n.mask; join = n.join; style = n.style; contents = contents_of n.contents };
+  core = record {
+    id = n.id;
+    mask = n.mask;
+    join = n.join;
+    style = n.style;
+    contents = contents_of
+        n.contents;
+  };
   name = n.name;
   visible = n.visible;
   opacity = n.opacity;
@@ -77,8 +89,8 @@ has_layer id layers = list_any (is_layer id) layers
 abbrev pub core_in : List Layer → ℕ → Option Core
 core_in layers id = option_map (λ layer. layer.core) (find (is_layer id) layers)
 
--- all that a layer's image is painted from: its own core, and those of its mask layer and of its join layer where
--- these are named and there
+-- all that a layer's image is painted from: its own core, and those of its mask layer and of its join layer
+-- where these are named and there
 pub record Parts : Type 0 where
   pub own : Core
   pub mask : Option Core
@@ -106,7 +118,7 @@ deps project id = option_map_or deps_of (core_in project.layers id) (id ∷ [])
 
 -- ---- the slots of a picture
 
--- a layer is painted at so many millionths to a pixel
+-- a layer is a slot at a view: it is visible, and its bounds hold the view's units per pixel
 abbrev pub is_slot : PixelGrid → Layer → Bool
 is_slot view layer = layer.visible && holds_scale layer.scales view.u
 

@@ -1,4 +1,6 @@
 -- Painted layers and composed pictures: what an image is made from, and which image that is.
+--
+-- Source: in outline the developer documentation of QGIS (`QgsMapRendererParallelJob`): one image for each layer.
 use Rattle.std.specs.Prelude.{ℕ, List, map, zip, filter_map, Option, option_map}
 use Rattle.cv_model.specs.declared.blend.Blend.{Blend}
 use Rattle.cv_model.specs.declared.colour.Rgb.{Rgb}
@@ -14,7 +16,8 @@ pub record Stamp : Type 0 where
   pub id : ℕ
   pub revision : ℕ
 
--- what a layer is painted from: its parts, and the stamps of the layers that it depends on, in the order of its dependencies
+-- what a layer is painted from: its parts, and the stamps of the layers that it depends on, in the order of
+-- its dependencies
 pub record Input : Type 0 where
   pub parts : Parts
   pub stamps : List Stamp
@@ -57,7 +60,8 @@ merged_painting i j slot =
 
 -- the colour of a composition at (i, j)
 unfoldable pub composed_at : Composition → ℕ → ℕ → Rgb
-composed_at c i j = merged c.frame.background (filter_map (merged_painting i j) (zip c.frame.slots c.paintings))
+composed_at c i j = merged c.frame.background (filter_map (merged_painting i j) (zip c.frame.slots
+    c.paintings))
 
 -- the picture of a composition
 abbrev pub composed : Composition → Raster Rgb

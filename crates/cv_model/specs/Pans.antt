@@ -1,5 +1,9 @@
 -- Views that are moved by whole pixels, and what such a move uncovers.
-use Rattle.std.specs.Prelude.{ℕ, ◌-◌, ◌*◌, ◌/◌, ◌%◌, ◌==◌, nat_le, Bool, ◌&&◌, ◌||◌, if◌then◌else◌, ℤ, pos, neg_ℤ, ◌-ℤ◌, int_lt, unsigned_abs, List, [], ◌∷◌, ◌++◌, Option, Some, None, option_map, option_and_then, is_some}
+--
+-- Source: this project's own.
+use Rattle.std.specs.Prelude.{ℕ, ◌-◌, ◌*◌, ◌/◌, ◌%◌, ◌==◌, nat_le, Bool, ◌&&◌, ◌||◌, if◌then◌else◌, ℤ, pos}
+use Rattle.std.specs.Prelude.{neg_ℤ, ◌-ℤ◌, int_lt, unsigned_abs, List, [], ◌∷◌, ◌++◌, Option, Some, None}
+use Rattle.std.specs.Prelude.{option_map, option_and_then, is_some}
 use Rattle.std.specs.Ordering.{int_eq}
 use Rattle.cv_model.specs.Views.{PixelGrid, natural}
 
@@ -16,7 +20,8 @@ whole_steps length distance =
 abbrev pub are_alike : PixelGrid → PixelGrid → Bool
 are_alike a b = int_eq a.u b.u && (a.w == b.w && a.h == b.h)
 
--- by how many pixels eastwards and southwards the new view lies from the old one, if these are whole and the views alike
+-- by how many pixels eastwards and southwards the new view lies from the old one, if these are whole and
+-- the views alike
 unfoldable pub pan_of : PixelGrid → PixelGrid → Option (ℤ × ℤ)
 pan_of before new =
     if are_alike before new
@@ -40,9 +45,15 @@ pub record PixelBox : Type 0 where
 abbrev pub side_strip : ℕ → ℕ → ℤ → List PixelBox
 side_strip w h dx =
     if unsigned_abs dx == 0 then []
-    else (record { i = (if int_lt dx (pos 0) then 0 else w - unsigned_abs dx); j = 0; w = unsigned_abs dx; h = h }) ∷ []
+    else (record {
+      i = (if int_lt dx (pos 0) then 0 else w - unsigned_abs dx);
+      j = 0;
+      w = unsigned_abs dx;
+      h = h;
+    }) ∷ []
 
--- of the other columns, the rows that a move by dy uncovers, at the bottom for dy above 0 and at the top below 0
+-- of the other columns, the rows that a move by dy uncovers, at the bottom for dy above 0 and at the top
+-- below 0
 abbrev pub end_strip : ℕ → ℕ → ℤ → ℤ → List PixelBox
 end_strip w h dx dy =
     if unsigned_abs dy == 0 then []

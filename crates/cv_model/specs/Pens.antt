@@ -1,7 +1,8 @@
 -- What a pen hits: a segment that meets the square round a position.
 --
 -- Source: this project's own pen, an upright square whose middle follows the line.
-use Rattle.std.specs.Prelude.{ℕ, ◌^◌, ◌≤◌, Bool, not, ◌&&◌, ℤ, pos, ◌+ℤ◌, ◌-ℤ◌, ◌*ℤ◌, ◌≤ℤ◌, int_lt, int_le, List, [], ◌∷◌}
+use Rattle.std.specs.Prelude.{ℕ, ◌^◌, ◌≤◌, Bool, not, ◌&&◌, ℤ, pos, ◌+ℤ◌, ◌-ℤ◌, ◌*ℤ◌, ◌≤ℤ◌, int_lt, int_le}
+use Rattle.std.specs.Prelude.{List, [], ◌∷◌}
 use Rattle.std.specs.Int.{int_max, int_min}
 use Rattle.std.specs.List.{list_all}
 use Rattle.cv_model.specs.declared.colour.Rgba.{Rgba}
@@ -39,9 +40,11 @@ corners r p =
 -- the positions don't all lie left of the line from a to b, nor all right of it
 abbrev pub straddles : Position → Position → List Position → Bool
 straddles a b ps =
-    not (list_all (λ q. int_lt (pos 0) (side_of a b q)) ps) && not (list_all (λ q. int_lt (side_of a b q) (pos 0)) ps)
+    not (list_all (λ q. int_lt (pos 0) (side_of a b q)) ps) && not (list_all (λ q. int_lt (side_of a b q)
+    (pos 0)) ps)
 
--- the segment from a to b meets the square of half-side r round p: their boxes overlap, and the square straddles the line
+-- the segment from a to b meets the square of half-side r round p: their boxes overlap, and the square
+-- straddles the line
 unfoldable pub meets : ℤ → Position → Position → Position → Bool
 meets r p a b = overlaps r p.x a.x b.x && overlaps r p.y a.y b.y && straddles a b (corners r p)
 

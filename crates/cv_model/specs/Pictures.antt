@@ -1,7 +1,8 @@
 -- What is painted: the strokes of a feature, a layer's pixel, and the picture of a project at a view.
 --
 -- Source: this project's own; colours are laid and merged by W3C Compositing and Blending Level 1.
-use Rattle.std.specs.Prelude.{ℕ, ◌+◌, Bool, true, false, nat_eq, if◌then◌else◌, ℤ, pos, ◌*ℤ◌, List, [], ◌∷◌, ◌++◌, map, Option, Some, None}
+use Rattle.std.specs.Prelude.{ℕ, ◌+◌, Bool, true, false, nat_eq, if◌then◌else◌, ℤ, pos, ◌*ℤ◌, List, [], ◌∷◌}
+use Rattle.std.specs.Prelude.{◌++◌, map, Option, Some, None}
 use Rattle.std.specs.List.{flat_map, list_any}
 use Rattle.std.specs.Option.{option_map_or}
 use Rattle.cv_model.specs.declared.colour.Rgb.{Rgb}
@@ -62,7 +63,8 @@ fill_strokes p g (Some fill) = laid_where (is_covered p g) fill
 abbrev pub pen_strokes : PixelGrid → Position → GeometryLists → Option PenParts → List Rgba
 pen_strokes view p g None = []
 pen_strokes view p g (Some pen) =
-    let r = half_side view pen.width in laid_where (hits_rings r p g) pen.colour ++ laid_where (hits_lines r p g) pen.colour
+    let r = half_side view pen.width in laid_where (hits_rings r p g) pen.colour ++ laid_where (hits_lines
+    r p g) pen.colour
 
 -- the marker, once, where it covers p from some point
 abbrev pub marker_strokes : PixelGrid → Position → GeometryLists → Option MarkerParts → List Rgba
@@ -107,7 +109,8 @@ cell_colour (Single symbol) grid p = transparent
 cell_colour (Categorised field classes fallback) grid p = transparent
 cell_colour (Graduated field classes) grid p = transparent
 
--- what a layer's contents paint at p: the strokes of its features in order, each over those before, or its cell's colour
+-- what a layer's contents paint at p: the strokes of its features in order, each over those before, or its
+-- cell's colour
 abbrev pub painted : Contents → Parts → PixelGrid → Position → Rgba
 painted (Features columns features) parts view p = laid (flat_map (feature_strokes parts view p) features)
 painted (Cells grid) parts view p = cell_colour parts.own.style grid p
@@ -115,13 +118,15 @@ painted (Cells grid) parts view p = cell_colour parts.own.style grid p
 -- the pixel of a layer
 unfoldable pub pixel : Parts → PixelGrid → ℕ → ℕ → Rgba
 pixel parts view i j =
-    let p = centre_of view i j in if is_shown p parts.mask then painted parts.own.contents parts view p else transparent
+    let p = centre_of view i j in if is_shown p parts.mask then painted parts.own.contents parts view p
+    else transparent
 
 -- ---- the picture
 
 -- what a slot merges: its layer's pixel with the layer's opacity and mode
 abbrev pub merged_slot : Project → PixelGrid → ℕ → ℕ → Layer → Rgba × ℕ × Blend
-merged_slot project view i j layer = (pixel (parts_among project.layers layer.core) view i j, layer.opacity, layer.blend)
+merged_slot project view i j layer =
+    (pixel (parts_among project.layers layer.core) view i j, layer.opacity, layer.blend)
 
 -- the colour of these layers, bottom first, merged onto the background
 unfoldable pub colour_of : Project → List Layer → PixelGrid → ℕ → ℕ → Rgb
@@ -142,7 +147,8 @@ picture project view = picture_of project (slots project view) view
 -- those of the slots, numbered from k, whose numbers are listed
 abbrev pub listed : {A : Type 0} → List ℕ → ℕ → List A → List A
 listed ready k [] = []
-listed ready k (x ∷ xs) = if list_any (nat_eq k) ready then x ∷ listed ready (k + 1) xs else listed ready (k + 1) xs
+listed ready k (x ∷ xs) =
+    if list_any (nat_eq k) ready then x ∷ listed ready (k + 1) xs else listed ready (k + 1) xs
 
 -- the picture of the slots that are listed
 abbrev pub picture_with : Project → PixelGrid → List ℕ → Raster Rgb

@@ -1,7 +1,8 @@
 -- The inside of a polygon, by the parity rule of its edges.
 --
 -- Source: OGC 06-103r4 for polygons and rings; which borders belong to a polygon is this project's rule.
-use Rattle.std.specs.Prelude.{ℕ, ◌%◌, Bool, false, if◌then◌else◌, ◌==◌, ◌-ℤ◌, ◌*ℤ◌, int_lt, int_le, List, [], ◌∷◌, count_by}
+use Rattle.std.specs.Prelude.{ℕ, ◌%◌, Bool, false, if◌then◌else◌, ◌==◌, ◌-ℤ◌, ◌*ℤ◌, int_lt, int_le, List}
+use Rattle.std.specs.Prelude.{[], ◌∷◌, count_by}
 use Rattle.std.specs.List.{flat_map}
 use Rattle.cv_model.specs.Positions.{Position, doubled}
 

@@ -6,7 +6,7 @@ pub record Position : Type 0 where
   pub x : ℤ
   pub y : ℤ
 
--- a rectangle of the map, by its least and its greatest coordinates
+-- a rectangle of the map, by its western, southern, eastern and northern edge
 pub record Rectangle : Type 0 where
   pub xmin : ℤ
   pub ymin : ℤ

@@ -1,5 +1,8 @@
 -- Project files in form: what is read, and what can be written and opened.
-use Rattle.std.specs.Prelude.{◌≡◌, ℕ, ◌*◌, ◌≤◌, true, false, Bool, ◌<ℤ◌, List, map, length, All, IfSome}
+--
+-- Source: this project's own, over JSON (RFC 8259).
+use Rattle.std.specs.Prelude.{◌≡◌, ℕ, ◌*◌, ◌/◌, min, ◌≤◌, true, false, Bool, ◌<ℤ◌, List, map, length, All}
+use Rattle.std.specs.Prelude.{IfSome}
 use Rattle.std.specs.List.{IsDistinct}
 use Rattle.std.specs.Prelude.{nat_eq}
 use Rattle.cv_model.specs.declared.colour.Rgb.{Rgb}
@@ -31,6 +34,10 @@ pub record IsSize (w h : ℕ) : Type 0 where
   pub most_wide : w ≤ 4096
   pub most_high : h ≤ 4096
   pub most : w * h ≤ 2097152
+
+-- how many layer images of this size a cache of so many bytes may hold, at most 64
+abbrev pub capacity_of : ℕ → ℕ → ℕ → ℕ
+capacity_of w h cache = min 64 (cache / (4 * (w * h)))
 
 -- an extent that a view of this size can show: it has an area, and its view is in range
 pub record IsShown (w h : ℕ) (e : Rectangle) : Type 0 where

@@ -1,7 +1,9 @@
 -- Ramps: the colour of a grid's number.
 --
--- Source: this project's own; between two stops each channel goes in proportion, rounded to the nearest, a half upwards.
-use Rattle.std.specs.Prelude.{ℕ, ◌+◌, ◌*◌, ◌≤◌, Bool, if◌then◌else◌, ℤ, ◌<ℤ◌, int_lt, int_le, List, [], ◌∷◌, length, All, find}
+-- Source: this project's own; between two stops each channel goes in proportion, rounded to the nearest, a
+-- half upwards.
+use Rattle.std.specs.Prelude.{ℕ, ◌+◌, ◌*◌, ◌≤◌, Bool, if◌then◌else◌, ℤ, ◌<ℤ◌, int_lt, int_le, List, [], ◌∷◌}
+use Rattle.std.specs.Prelude.{length, All, find}
 use Rattle.std.specs.Ordering.{int_eq}
 use Rattle.std.specs.Option.{option_map_or}
 use Rattle.cv_number.specs.Rounding.{rnd}
@@ -45,7 +47,8 @@ is_at v s = int_eq s.value v
 abbrev pub reaches : ℤ → Stop → Bool
 reaches v s = int_le v s.value
 
--- a channel between two stops: in proportion to the distances from the upper one, for c0, and the lower one, for c1
+-- a channel between two stops: in proportion to the distances from the upper one, for c0, and the lower
+-- one, for c1
 abbrev pub channel_between : ℕ → ℕ → ℕ → ℕ → ℕ
 channel_between below above c0 c1 = rnd (c0 * above + c1 * below) (below + above)
 

@@ -1,4 +1,6 @@
 -- The scales at which a layer is painted.
+--
+-- Source: this project's own.
 use Rattle.std.specs.Prelude.{Bool, true, ◌&&◌, ℤ, pos, ◌≤ℤ◌, int_le, Option, None, IfSome}
 use Rattle.std.specs.Option.{option_map_or}
 
@@ -23,4 +25,6 @@ all_scales = record { least = None; greatest = None }
 
 -- the bounds hold so many millionths to a pixel
 abbrev pub holds_scale : ScaleBounds → ℤ → Bool
-holds_scale s u = option_map_or (λ least. int_le least u) s.least true && option_map_or (λ greatest. int_le u greatest) s.greatest true
+holds_scale s u =
+    option_map_or (λ least. int_le least u) s.least true
+    && option_map_or (λ greatest. int_le u greatest) s.greatest true

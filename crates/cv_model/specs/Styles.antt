@@ -1,5 +1,8 @@
 -- Styles: which symbol a text gives.
-use Rattle.std.specs.Prelude.{ℕ, Bool, ◌&&◌, ℤ, int_le, List, Option, Some, None, option_map, option_and_then, find, bytes_eq}
+--
+-- Source: this project's own classes; a text is read as a number by the grammar of decimals.
+use Rattle.std.specs.Prelude.{ℕ, Bool, ◌&&◌, ℤ, int_le, List, Option, Some, None, option_map}
+use Rattle.std.specs.Prelude.{option_and_then, find, bytes_eq}
 use Rattle.std.specs.Option.{option_or}
 use Rattle.cv_number.specs.declared.fixed.Fixed.{Fixed}
 use Rattle.cv_number.specs.declared.fixed.Fixed.TheVariants.{Value, High, Low, NotNumber}
@@ -36,6 +39,7 @@ range_of classes v = option_map (λ c. c.symbol) (find (holds v) classes)
 -- the symbol that a style gives to a text, which may be absent; a ramp gives none
 unfoldable pub symbol_of : Style → Option (List ℕ) → Option Symbol
 symbol_of (Single symbol) text = Some symbol
-symbol_of (Categorised field classes fallback) text = option_or (option_and_then (class_of classes) text) fallback
+symbol_of (Categorised field classes fallback) text = option_or (option_and_then (class_of classes) text)
+    fallback
 symbol_of (Graduated field classes) text = option_and_then (range_of classes) (option_and_then number_of text)
 symbol_of (Ramp ramp) text = None

@@ -1,5 +1,8 @@
 -- Which text of a feature a style reads.
-use Rattle.std.specs.Prelude.{ℕ, Bool, List, find, position, slice_get, bytes_eq, Option, None, option_and_then, if◌then◌else◌, false}
+--
+-- Source: this project's own.
+use Rattle.std.specs.Prelude.{ℕ, Bool, List, find, position, slice_get, bytes_eq, Option, None}
+use Rattle.std.specs.Prelude.{option_and_then, if◌then◌else◌, false}
 use Rattle.std.specs.Option.{option_map_or}
 use Rattle.cv_model.specs.declared.feature.Feature.{Feature}
 use Rattle.cv_model.specs.declared.layer.Join.{Join}
@@ -23,11 +26,11 @@ text_of (Cells grid) name feature = None
 abbrev pub has_text : List (List ℕ) → List ℕ → List ℕ → Feature → Bool
 has_text columns name text feature = option_map_or (bytes_eq text) (text_in columns name feature) false
 
--- the text, in the column `name`, of the first of a layer's features that has `key` in the column of that name; a grid has none
+-- the text in the column `name` of a layer's first feature that has this text in the column `key`; a grid has none
 abbrev pub joined_in : Contents → List ℕ → List ℕ → List ℕ → Option (List ℕ)
-joined_in (Features columns features) column name key =
-    option_and_then (text_in columns name) (find (has_text columns column key) features)
-joined_in (Cells grid) column name key = None
+joined_in (Features columns features) key name text =
+    option_and_then (text_in columns name) (find (has_text columns key text) features)
+joined_in (Cells grid) key name text = None
 
 -- the text that a feature takes from the join layer
 abbrev pub joined_text : Contents → Join → Contents → List ℕ → Feature → Option (List ℕ)
@@ -38,7 +41,10 @@ joined_text own join there name feature =
 abbrev pub field_text : Parts → Field → Feature → Option (List ℕ)
 field_text parts field feature =
     if field.joined
-    then option_and_then (λ join. option_and_then (λ (there : Core). joined_text parts.own.contents join there.contents field.name feature) parts.join) parts.own.join
+    then option_and_then
+    (λ join. option_and_then
+    (λ (there : Core). joined_text parts.own.contents join there.contents field.name feature) parts.join)
+    parts.own.join
     else text_of parts.own.contents field.name feature
 
 -- the text that a style reads; a style without a field reads none

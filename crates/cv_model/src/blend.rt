@@ -2,8 +2,8 @@
 
 /// How a layer's colour is blended onto what lies below it.
 ///
-/// Source: the blend modes of W3C Compositing and Blending Level 1 for channels, without soft-light. `Addition` is the
-/// operator that this text calls `lighter`.
+/// Source: the blend modes of W3C Compositing and Blending Level 1 for channels, without soft-light.
+/// `Addition` is the operator that this text calls `lighter`.
 #[derive(Clone, Copy, Debug, PartialEq, Eq)]
 pub enum Blend {
     /// `normal`: the source's channel, whatever lies below it.

@@ -45,7 +45,8 @@ impl<T> Classes<T> {
         Classes { items }
     }
 
-    /// Puts a class behind the others, where there are fewer than 1,024. A refusal hands it back and changes nothing.
+    /// Puts a class behind the others, where there are fewer than 1,024. A refusal hands it back and
+    /// changes nothing.
     pub fn push(&mut self, item: T) -> Result<(), (T, NoMemory)>
         requires room { length self.old < 1024 }
         ensures ok { OnOk result (self.new ≡ self.old ++ item ∷ []) }

@@ -4,7 +4,8 @@ use std::marker::Model;
 
 /// A rectangle of the map, in millionths of a map unit, each number from -10^15 to 10^15.
 ///
-/// It may have no width or no height, and its edges may be exchanged: the call that makes a view of it refuses such extents.
+/// It may have no width or no height, and its edges may be exchanged: the call that makes a view of it
+/// refuses such extents.
 #[derive(Clone, Copy, Debug)]
 pub struct Extent {
     /// The western edge.
@@ -24,7 +25,8 @@ impl Model for Extent {
 
     ghost view = { λ e. record { xmin = e.xmin; ymin = e.ymin; xmax = e.xmax; ymax = e.ymax } };
 
-    ghost invariant = { λ e. IsExtent (record { xmin = e.xmin; ymin = e.ymin; xmax = e.xmax; ymax = e.ymax }) };
+    ghost invariant = { λ e. IsExtent
+        (record { xmin = e.xmin; ymin = e.ymin; xmax = e.xmax; ymax = e.ymax }) };
 
     ghost inverse = { λ e. record { xmin = e.xmin; ymin = e.ymin; xmax = e.xmax; ymax = e.ymax } };
 }

@@ -41,7 +41,8 @@ pub struct Room {
     pub values: u32,
 }
 
-/// The features of a layer, seen as the names of its columns, the features in order, and the notes on refused geometries.
+/// The features of a layer, seen as the names of its columns, the features in order, and the notes on
+/// refused geometries.
 ///
 /// It keeps that the features' ids differ, and that each feature has as many values as there are columns.
 #[derive(Drop)]
@@ -58,7 +59,8 @@ impl Model for FeatureList {
 
     ghost view = { λ l. record { columns = l.columns; features = l.features; notes = l.notes } };
 
-    ghost invariant = { λ l. IsFeatureTable (record { columns = l.columns; features = l.features; notes = l.notes }) };
+    ghost invariant = { λ l. IsFeatureTable
+        (record { columns = l.columns; features = l.features; notes = l.notes }) };
 }
 
 impl FeatureList {
@@ -85,7 +87,8 @@ impl FeatureList {
 
     /// The features in order.
     pub fn features(&self) -> &[Feature]
-        ensures { result.now ≡ self.now.features }
+        ensures features { result.now ≡ self.now.features }
+        ensures kept { IsFeatureTable self.now }
     {
         self.features.as_slice()
     }

@@ -17,11 +17,12 @@ pub enum Cell {
 /// Cells, the northernmost row first and each row from the west.
 pub type CellList = Sequence<Cell>;
 
-/// A grid of cells laid on the map, seen as its columns and rows, its left and bottom edge in doubled millionths, the
-/// width and height of a cell in millionths, and its cells, the northernmost row first and each row from the west.
+/// A grid of cells laid on the map, seen as its columns and rows, its left and bottom edge in doubled
+/// millionths, the width and height of a cell in millionths, and its cells, the northernmost row first and
+/// each row from the west.
 ///
-/// It keeps that there is a cell for each column and row, that a cell has sides, and that its edges lie within 10^15
-/// millionths either way.
+/// It keeps that there is a cell for each column and row, that a cell has sides, and that its edges lie
+/// within 10^15 millionths either way.
 #[derive(Drop)]
 pub struct Grid {
     cols: u32,
@@ -38,9 +39,25 @@ impl Model for Grid {
 
     ghost Value = { CellGrid };
 
-    ghost view = { λ g. record { cols = g.cols; rows = g.rows; left2 = g.left2; bottom2 = g.bottom2; dx = g.dx; dy = g.dy; cells = g.cells } };
+    ghost view = { λ g. record {
+      cols = g.cols;
+      rows = g.rows;
+      left2 = g.left2;
+      bottom2 = g.bottom2;
+      dx = g.dx;
+      dy = g.dy;
+      cells = g.cells;
+    } };
 
-    ghost invariant = { λ g. IsGrid (record { cols = g.cols; rows = g.rows; left2 = g.left2; bottom2 = g.bottom2; dx = g.dx; dy = g.dy; cells = g.cells }) };
+    ghost invariant = { λ g. IsGrid (record {
+      cols = g.cols;
+      rows = g.rows;
+      left2 = g.left2;
+      bottom2 = g.bottom2;
+      dx = g.dx;
+      dy = g.dy;
+      cells = g.cells;
+    }) };
 }
 
 impl Grid {
@@ -56,8 +73,24 @@ impl Grid {
         dy: u64,
         cells: CellList,
     ) -> Grid
-        requires { IsGrid (record { cols = cols; rows = rows; left2 = left2; bottom2 = bottom2; dx = dx; dy = dy; cells = cells }) }
-        ensures { result ≡ record { cols = cols; rows = rows; left2 = left2; bottom2 = bottom2; dx = dx; dy = dy; cells = cells } }
+        requires { IsGrid (record {
+          cols = cols;
+          rows = rows;
+          left2 = left2;
+          bottom2 = bottom2;
+          dx = dx;
+          dy = dy;
+          cells = cells;
+        }) }
+        ensures { result ≡ record {
+          cols = cols;
+          rows = rows;
+          left2 = left2;
+          bottom2 = bottom2;
+          dx = dx;
+          dy = dy;
+          cells = cells;
+        } }
     {
         Grid {
             cols,

@@ -2,7 +2,8 @@
 
 ghost use Rattle.cv_model.specs.Laws.{UntouchedPartsStay, FrameEditsLeaveParts, UntouchedDepsStay, AbsentMasksShowAll, AbsentJoinsGiveNothing, EmptyPictureIsBackground, OpaqueHidesBackdrop, OpaqueHidesBelow, OverNothingStays};
 
-/// An edit that touches none of the layers on which a layer depends leaves the parts from which that layer is painted.
+/// An edit that touches none of the layers on which a layer depends leaves the parts from which that layer
+/// is painted.
 pub fn untouched_parts_stay()
     ensures { UntouchedPartsStay }
 {}

@@ -16,8 +16,8 @@ pub enum LayerData {
     Grid(Grid),
 }
 
-/// The layer from which a style takes texts: a feature has those of the first feature there whose text in the column `key`
-/// equals its own text in the column `local`.
+/// The layer from which a style takes texts: a feature has those of the first feature there whose text in
+/// the column `key` equals its own text in the column `local`.
 #[derive(Drop)]
 pub struct Join {
     /// The layer's id.
@@ -28,7 +28,8 @@ pub struct Join {
     pub key: Text,
 }
 
-/// The least and the greatest number of units per pixel at which a layer is painted, in millionths from 0 to 10^15.
+/// The least and the greatest number of units per pixel at which a layer is painted, in millionths from 0
+/// to 10^15.
 ///
 /// Where both are there, the least isn't above the greatest.
 #[derive(Clone, Copy, Debug)]

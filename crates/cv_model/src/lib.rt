@@ -1,8 +1,8 @@
 //! The plain types of the map and the definitions that all contracts cite.
 //!
-//! Contract: each type keeps what its definition says, and is seen as a list, a number or a record of its parts.
-//! Definitions, from positions to the picture of a project and to its edits: see `specs/Lib.antt` for their order.
-//! Only `with_room`, `push`, `put` and `Text::of` take memory; no handle is needed.
+//! Contract: each type keeps what its definition says, and is seen as a list, a number or a record of its
+//! parts. Definitions, from positions to the picture of a project and to its edits: see `specs/Lib.antt`
+//! for their order. Only `with_room`, `push`, `put` and `Text::of` take memory; no handle is needed.
 #![tactic(auto)]
 
 mod blend;
@@ -50,7 +50,8 @@ pub use symbol::{Marker, Pen, Symbol};
 pub use text::Text;
 pub use view::View;
 
-/// The answer of a call that has got no memory. It is the one answer whose cause contracts leave out, since no caller can know it.
+/// The answer of a call that has got no memory. It is the one answer whose cause contracts leave out, since
+/// no caller can know it.
 pub type NoMemory = std::alloc::AllocError;
 
 #[cfg(test)]

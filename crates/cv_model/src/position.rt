@@ -50,5 +50,6 @@ impl Model for Point2 {
 /// A ring: its points in order. The last is joined to the first, so a ring needn't repeat it.
 pub type Ring = Sequence<Point>;
 
-/// A polygon: its rings. What is inside is told by the parity of all their edges, so a ring within a ring is a hole.
+/// A polygon: its rings. What is inside is told by the parity of all their edges, so a ring within a ring
+/// is a hole.
 pub type Polygon = Sequence<Ring>;

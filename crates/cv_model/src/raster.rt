@@ -34,7 +34,8 @@ impl<T> Model for Pixels<T> {
 
     ghost view = { λ p. record { width = p.width; height = p.height; pixels = p.pixels } };
 
-    ghost invariant = { λ p. IsRaster {A = T} (record { width = p.width; height = p.height; pixels = p.pixels }) };
+    ghost invariant = { λ p. IsRaster {A = T}
+        (record { width = p.width; height = p.height; pixels = p.pixels }) };
 }
 
 impl<T> Pixels<T> {

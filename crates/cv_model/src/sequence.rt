@@ -31,7 +31,7 @@ impl<T> Sequence<T> {
         }
     }
 
-    /// An empty list that has taken the memory of `room` items.
+    /// An empty list that asks for the memory of `room` items at once.
     pub fn with_room(alloc: Global, room: u64) -> Result<Self, NoMemory>
         ensures { IfOk result (λ made. made ≡ []) }
     {

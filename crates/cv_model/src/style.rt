@@ -10,7 +10,8 @@ use crate::text::Text;
 pub enum Style {
     /// Each feature with this symbol.
     Single(Symbol),
-    /// By the text of a field: the first class with an equal text, else the symbol for all others, if there is one.
+    /// By the text of a field: the first class with an equal text, else the symbol for all others, if there
+    /// is one.
     Categorised(Field, ClassList, Option<Symbol>),
     /// By a field read as a decimal: the first range that holds it, with both its bounds.
     Graduated(Field, RangeList),

@@ -1,4 +1,5 @@
-//! What no clause says: each call that takes memory can answer, and a list works at a type that must be dropped.
+//! What no clause says: each call that takes memory can answer, and a list works at a type that must be
+//! dropped.
 use crate::{Point, Polygon, Rgb, RgbList, Ring, Text};
 use std::test::Fail;
 

@@ -1,4 +1,5 @@
--- Numbers as texts: rounding, the marks of decimals, their grammar and value, and the machine that reads them.
+-- Numbers as texts: rounding, the marks of decimals, their grammar and value, and the machine that reads
+-- them.
 pub mod Rounding
 pub mod Mark
 pub mod Spellings

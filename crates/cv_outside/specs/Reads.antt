@@ -1,5 +1,6 @@
 -- What a read of a shelf may answer, and what it then leaves.
-use Rattle.std.specs.Prelude.{◌≡◌, ℕ, ◌+◌, ◌≤◌, List, [], ◌∷◌, ◌++◌, length, take, option_map, Option, Some, None}
+use Rattle.std.specs.Prelude.{◌≡◌, ℕ, ◌+◌, ◌≤◌, option_map, Option, Some, None}
+use Rattle.std.specs.Prelude.{List, [], ◌∷◌, ◌++◌, length, take}
 use Rattle.cv_outside.specs.declared.ends.ReadEnd.{ReadEnd}
 use Rattle.cv_outside.specs.declared.ends.ReadEnd.TheVariants.{Found, Absent, Failed, NoMemory}
 
@@ -17,7 +18,8 @@ ReadsAtMost Absent max got = got ≡ []
 ReadsAtMost Failed max got = got ≡ []
 ReadsAtMost NoMemory max got = got ≡ []
 
--- what was read of the file under the name: its first bytes, one above the limit; Absent only where there is no file
+-- what was read of the file under the name: its first bytes, one above the limit; Absent only where there
+-- is no file
 abbrev pub Reads : ReadEnd → Option (List ℕ) → ℕ → List ℕ → Type 0
 Reads Found file max got = option_map (take (max + 1)) file ≡ Some got
 Reads Absent file max got = file ≡ None

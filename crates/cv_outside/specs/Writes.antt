@@ -10,11 +10,12 @@ TrayCause Failed fault = fault
 TrayCause NoMemory fault = Unit {0}
 
 -- each other name has the file that it had
-abbrev pub OthersStay : (List ℕ → Option (List ℕ)) → (List ℕ → Option (List ℕ)) → List ℕ → Type 0
+abbrev pub OthersStay : (old new : List ℕ → Option (List ℕ)) → List ℕ → Type 0
 OthersStay old new name = (q : List ℕ) → q ≢ name → new q ≡ old q
 
--- the files after a write: under the name stand the bytes, or after a fault whatever it is; no other file changes
-abbrev pub Writes : TrayEnd → (List ℕ → Option (List ℕ)) → (List ℕ → Option (List ℕ)) → List ℕ → List ℕ → Type 0
+-- the files after a write: under the name stand the bytes, or after a fault whatever it is; no other file
+-- changes
+abbrev pub Writes : TrayEnd → (old new : List ℕ → Option (List ℕ)) → (name bytes : List ℕ) → Type 0
 Writes Kept old new name bytes = (new name ≡ Some bytes) × OthersStay old new name
 Writes Failed old new name bytes = OthersStay old new name
 Writes NoMemory old new name bytes = (q : List ℕ) → new q ≡ old q

@@ -1,5 +1,5 @@
 //! Devices in memory of which listed calls fail.
-ghost use Rattle.std.specs.Prelude.{◌≡◌, ◌≤◌, [], ℕ, List, true, IsTrue};
+ghost use Rattle.std.specs.Prelude.{◌≡◌, ◌≤◌, [], ℕ, List, true, option_map, IsTrue};
 ghost use Rattle.cv_outside.specs.Counts.{Rose};
 ghost use Rattle.cv_outside.specs.Files.{bytes_under, names_of};
 
@@ -116,11 +116,11 @@ impl MemTray {
         }
     }
 
-    /// The files that it keeps.
-    pub fn files(&self) -> &Files
-        ensures { (q : List ℕ) → bytes_under result.now q ≡ ⟦<MemTray as Tray>⟧.file_at self.now q }
+    /// The bytes of the file that it keeps under a name.
+    pub fn file(&self, name: &str) -> Option<&[u8]>
+        ensures { option_map (λ bytes. bytes.now) result ≡ ⟦<MemTray as Tray>⟧.file_at self.now name.now }
     {
-        self.sure.files()
+        self.sure.file(name)
     }
 }
 

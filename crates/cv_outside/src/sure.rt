@@ -1,5 +1,5 @@
 //! Devices in memory that never fail.
-ghost use Rattle.std.specs.Prelude.{◌≡◌, ◌≤◌, ◌+◌, ◌++◌, ◌∷◌, [], ℕ, List, true, length, take, option_map, IsTrue, OnOk, OnErr, MatchResult, MatchBool};
+ghost use Rattle.std.specs.Prelude.{◌≡◌, ◌≤◌, ◌+◌, ◌++◌, ◌∷◌, ◌≢◌, [], ℕ, List, true, length, take, option_map, IsTrue, IfOk, OnOk, OnErr, MatchResult, MatchBool};
 ghost use Rattle.cv_outside.specs.Files.{bytes_under, names_of};
 ghost use Rattle.cv_outside.specs.Reads.{SameFiles};
 ghost use Rattle.cv_outside.specs.Writes.{OthersStay};
@@ -10,6 +10,16 @@ use std::collections::BTreeMap;
 
 /// Files by their names.
 pub type Files = BTreeMap<String, Vec<u8>>;
+
+/// The file of this name and these bytes, and no other.
+pub fn one_file(alloc: Global, name: &str, bytes: &[u8]) -> Result<Files, AllocError>
+    ensures file { IfOk result (λ files. bytes_under files name.now ≡ Some bytes.now) }
+    ensures others { IfOk result (λ files. (q : List ℕ) → q ≢ name.now → bytes_under files q ≡ None) }
+{
+    let mut files = BTreeMap::new(alloc);
+    keep_file(alloc, &mut files, name, bytes)?;
+    Ok(files)
+}
 
 /// A shelf in memory that never fails: only a missing file and want of memory remain.
 #[derive(Drop)]
@@ -130,11 +140,12 @@ impl SureTray {
         SureTray { alloc, files }
     }
 
-    /// The files that it keeps.
-    pub fn files(&self) -> &Files
-        ensures { (q : List ℕ) → bytes_under result.now q ≡ ⟦<SureTray as Tray>⟧.file_at self.now q }
+    /// The bytes of the file that it keeps under a name.
+    pub fn file(&self, name: &str) -> Option<&[u8]>
+        ensures { option_map (λ bytes. bytes.now) result ≡ ⟦<SureTray as Tray>⟧.file_at self.now name.now }
     {
-        &self.files
+        let bytes = self.files.get(name)?;
+        Some(bytes.as_slice())
     }
 }
 

@@ -1,14 +1,10 @@
 //! The devices in memory, each call failing in turn, through their bounds.
 use super::*;
 use std::alloc::{AllocError, Global};
-use std::collections::BTreeMap;
 use std::test::Fail;
 
-fn one_file(alloc: Global) -> Result<Files, AllocError> {
-    let mut files = BTreeMap::new(alloc);
-    let name = String::from_str(alloc, "a")?;
-    files.insert(name, Vec::from_slice(alloc, b"abc")?)?;
-    Ok(files)
+fn files(alloc: Global) -> Result<Files, AllocError> {
+    one_file(alloc, "a", b"abc")
 }
 
 fn keep<T: Tray + Send>(tray: &mut T, name: &str, bytes: &[u8]) -> TrayEnd {
@@ -19,12 +15,9 @@ fn pass<G: Gate + Sync>(gate: &G) {
     gate.at(1, 0);
 }
 
-// The bytes of a file, or of no file.
-fn bytes_of<'a>(files: &'a Files, name: &str) -> &'a [u8] {
-    match files.get(name) {
-        Some(bytes) => bytes,
-        None => b"-",
-    }
+// The answers of four polls.
+fn polls<S: Stop>(stop: &mut S) -> [bool; 4] {
+    [stop.poll(), stop.poll(), stop.poll(), stop.poll()]
 }
 
 #[test]
@@ -37,7 +30,7 @@ fn a_shelf_fails_at_the_listed_read(rt: HostRuntime) -> Result<(), Fail> {
     ];
     for failing in 0..4 {
         let listed = Vec::from_slice(alloc, &[failing])?;
-        let mut shelf = MemShelf::new(alloc, one_file(alloc)?, listed);
+        let mut shelf = MemShelf::new(alloc, files(alloc)?, listed);
         let mut into = Vec::from_slice(alloc, b"old")?;
         for (call, name, max, end, bytes) in reads {
             let (end, bytes) = if call == failing {
@@ -58,9 +51,9 @@ fn a_shelf_fails_at_the_listed_read(rt: HostRuntime) -> Result<(), Fail> {
 #[test]
 fn a_tray_fails_at_the_listed_write(rt: HostRuntime) -> Result<(), Fail> {
     let alloc = rt.alloc();
-    for (failing, first, second) in [(0, "x", "yz"), (1, "abc", "yz"), (2, "x", "-")] {
+    for (failing, first, second) in [(0, "x", Some("yz")), (1, "abc", Some("yz")), (2, "x", None)] {
         let listed = Vec::from_slice(alloc, &[failing])?;
-        let mut tray = MemTray::new(alloc, one_file(alloc)?, listed);
+        let mut tray = MemTray::new(alloc, files(alloc)?, listed);
         for (call, name, bytes) in [(1, "a", "x"), (2, "b", "yz")] {
             let end = keep(&mut tray, name, bytes.as_bytes());
             let want = if call == failing {
@@ -70,8 +63,8 @@ fn a_tray_fails_at_the_listed_write(rt: HostRuntime) -> Result<(), Fail> {
             };
             assert_eq!(rt; end, want, "{failing} {call}");
         }
-        assert_eq!(rt; bytes_of(tray.files(), "a"), first.as_bytes(), "{failing}");
-        assert_eq!(rt; bytes_of(tray.files(), "b"), second.as_bytes(), "{failing}");
+        assert_eq!(rt; tray.file("a"), Some(first.as_bytes()), "{failing}");
+        assert_eq!(rt; tray.file("b"), second.map(str::as_bytes), "{failing}");
     }
     Ok(())
 }
@@ -105,7 +98,7 @@ fn a_text_comes_whole_or_up_to_the_fault(rt: HostRuntime) -> Result<(), Fail> {
 #[test]
 fn a_file_is_read_up_to_the_limit(rt: HostRuntime) -> Result<(), Fail> {
     let alloc = rt.alloc();
-    let mut shelf = SureShelf::new(alloc, one_file(alloc)?);
+    let mut shelf = SureShelf::new(alloc, files(alloc)?);
     for (name, max, want) in [
         ("a", 3, None),
         ("a", u64::MAX, None),
@@ -120,7 +113,7 @@ fn a_file_is_read_up_to_the_limit(rt: HostRuntime) -> Result<(), Fail> {
     }
     assert_eq!(rt; shelf.asked().len(), 4);
     let listed = Vec::from_slice(alloc, &[1])?;
-    let mut shelf = MemShelf::new(alloc, one_file(alloc)?, listed);
+    let mut shelf = MemShelf::new(alloc, files(alloc)?, listed);
     let end = read_file(alloc, &mut shelf, "a", 3);
     assert_eq!(rt; end.err(), Some(Unread::Failed));
     Ok(())
@@ -129,13 +122,27 @@ fn a_file_is_read_up_to_the_limit(rt: HostRuntime) -> Result<(), Fail> {
 #[test]
 fn the_sure_devices_take_all(rt: HostRuntime) -> Result<(), Fail> {
     let alloc = rt.alloc();
-    let mut tray = SureTray::new(alloc, one_file(alloc)?);
+    let mut tray = SureTray::new(alloc, files(alloc)?);
     assert_eq!(rt; keep(&mut tray, "b", b"yz"), TrayEnd::Kept);
-    assert_eq!(rt; bytes_of(tray.files(), "a"), b"abc".as_slice());
-    assert_eq!(rt; bytes_of(tray.files(), "b"), b"yz".as_slice());
+    assert_eq!(rt; tray.file("a"), Some(b"abc".as_slice()));
+    assert_eq!(rt; tray.file("b"), Some(b"yz".as_slice()));
     let mut out = SureSink::new(Vec::from_slice(alloc, b"say ")?);
     assert_eq!(rt; write_all(&mut out, b"hello"), Ok(()));
     assert_eq!(rt; out.bytes(), b"say hello".as_slice());
     pass(&Open);
+    Ok(())
+}
+
+#[test]
+fn stops_say_yes_from_their_poll_on(rt: HostRuntime) -> Result<(), Fail> {
+    assert_eq!(rt; polls(&mut Never), [false; 4]);
+    for (n, said) in [
+        (0, [true; 4]),
+        (1, [true; 4]),
+        (3, [false, false, true, true]),
+        (u64::MAX, [false; 4]),
+    ] {
+        assert_eq!(rt; polls(&mut After::new(n)), said, "{n}");
+    }
     Ok(())
 }

@@ -1,0 +1,2 @@
+-- The project that `quick` paints.
+pub mod Plain

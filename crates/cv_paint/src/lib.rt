@@ -1,11 +1,12 @@
 //! The painter: from features and a symbol to the pixels of a picture.
 //!
 //! Contract: the picture is that of the definitions, at every pixel.
-//! Definitions: `Layers` and `Pictures` of `cv_model`. Takes memory for the pixels; no handle.
+//! Definitions: `Pictures` of `cv_model`; `Plain`, the project of one layer. Takes memory for the pixels;
+//! no handle.
 #![tactic(auto)]
 
 mod hits;
-pub mod plain;
+mod plain;
 mod sides;
 mod strokes;
 

@@ -1,12 +1,11 @@
 //! Painting by testing every feature at every pixel centre.
 
-ghost use Rattle.std.specs.Prelude.{◌≡◌, ◌<◌, ◌++◌, IfOk, OnOk};
+ghost use Rattle.std.specs.Prelude.{◌≡◌, ◌<◌, ◌++◌, Some, IfOk, OnOk};
 ghost use Rattle.std.specs.List.{flat_map};
 ghost use Rattle.cv_model.specs.declared.feature.Feature.{Feature};
 ghost use Rattle.cv_model.specs.Colours.{laid};
-ghost use Rattle.cv_model.specs.Symbols.{IsSymbol};
-ghost use Rattle.cv_model.specs.Layers.{features_project};
-ghost use Rattle.cv_model.specs.Pictures.{strokes, colour_at, picture};
+ghost use Rattle.cv_model.specs.Pictures.{strokes, picture};
+ghost use Rattle.cv_paint.specs.Plain.{features_project, colour_at};
 ghost use Rattle.cv_model.specs.Rasters.{row_of};
 
 use crate::strokes::with_feature;
@@ -33,11 +32,10 @@ const CLEAR: Rgba = Rgba {
 };
 
 /// The pixel of a layer at the centre `p`: the strokes of its features in order.
-#[tactic(auto, using(crate::proofs::Laying::laid_on_append))]
+#[tactic(auto, using(crate::proofs::LayLemmas::laid_more))]
 fn layer_pixel(features: &[Feature], symbol: &Symbol, view: &View, p: Point2) -> Rgba
-    requires { IsSymbol symbol.now }
     ensures { result ≡ laid (flat_map
-        (λ (feature : Feature). strokes symbol.now view.now p feature.geometry) features.now) }
+        (λ (feature : Feature). strokes (Some symbol.now) view.now p feature.geometry) features.now) }
 {
     let mut pixel = CLEAR;
     for feature in features {
@@ -47,14 +45,12 @@ fn layer_pixel(features: &[Feature], symbol: &Symbol, view: &View, p: Point2) ->
 }
 
 /// The pixel of the picture: the layer's pixel on white.
-#[tactic(auto, unfolding(cv_model::specs::Pictures::colour_at, cv_model::specs::Pictures::pixel))]
-fn colour(features: &[Feature], symbol: &Symbol, view: &View, i: u32, j: u32) -> Rgb
+fn colour(features: &FeatureList, symbol: &Symbol, view: &View, i: u32, j: u32) -> Rgb
     requires column { i < view.now.w }
     requires row { j < view.now.h }
-    requires symbol { IsSymbol symbol.now }
     ensures { result ≡ colour_at (features_project features.now symbol.now) view.now i j }
 {
-    let pixel = layer_pixel(features, symbol, view, centre(view, i, j));
+    let pixel = layer_pixel(features.features(), symbol, view, centre(view, i, j));
     merge(WHITE, pixel, 255, Blend::Normal)
 }
 
@@ -62,13 +58,12 @@ fn colour(features: &[Feature], symbol: &Symbol, view: &View, i: u32, j: u32) ->
 #[tactic(auto, using(cv_model::proofs::Rows::row_more))]
 fn paint_row(
     pixels: &mut RgbList,
-    features: &[Feature],
+    features: &FeatureList,
     symbol: &Symbol,
     view: &View,
     j: u32,
 ) -> Result<(), NoMemory>
     requires row { j < view.now.h }
-    requires symbol { IsSymbol symbol.now }
     ensures { OnOk result (pixels.new ≡ pixels.old
         ++ row_of view.now.w (colour_at (features_project features.now symbol.now) view.now) j) }
 {
@@ -78,9 +73,10 @@ fn paint_row(
     Ok(())
 }
 
-/// The picture of one layer of features with a symbol, over white: `view.w` by `view.h` pixels, rows from the top.
+/// The picture of one layer of features with a symbol, over white: `view.w` by `view.h` pixels, rows from
+/// the top.
 ///
-/// Each feature is tested at each pixel's centre. The symbol's pen is 1 to 64 pixels wide, and its marker 1 to 256.
+/// Each feature is tested at each pixel's centre.
 #[tactic(auto, using(cv_model::proofs::Rows::pixels_more, cv_model::proofs::Rows::length_pixels))]
 pub fn quick(
     alloc: Global,
@@ -88,13 +84,11 @@ pub fn quick(
     symbol: &Symbol,
     view: &View,
 ) -> Result<Picture, NoMemory>
-    requires { IsSymbol symbol.now }
-    ensures { IfOk result (λ made. made
-        ≡ picture (features_project features.now.features symbol.now) view.now) }
+    ensures { IfOk result (λ made. made ≡ picture (features_project features.now symbol.now) view.now) }
 {
     let mut pixels = RgbList::with_room(alloc, u64::from(view.w) * u64::from(view.h))?;
     for j in 0..view.h {
-        paint_row(&mut pixels, features.features(), symbol, view, j)?;
+        paint_row(&mut pixels, features, symbol, view, j)?;
     }
     Ok(Picture::of(view.w, view.h, pixels))
 }

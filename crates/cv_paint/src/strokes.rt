@@ -1,9 +1,9 @@
 //! What a feature lays on a pixel.
 
-ghost use Rattle.std.specs.Prelude.{◌≡◌, ◌≤◌, IfSome};
+ghost use Rattle.std.specs.Prelude.{◌≡◌, ◌++◌, Some};
 ghost use Rattle.cv_model.specs.Colours.{laid_on};
-ghost use Rattle.cv_model.specs.Symbols.{IsSymbol};
-ghost use Rattle.cv_model.specs.Pictures.{laid_where, fill_strokes, pen_strokes, marker_strokes, strokes, strokes_of};
+ghost use Rattle.cv_model.specs.Pens.{IsRadius};
+ghost use Rattle.cv_model.specs.Pictures.{hits_rings, hits_lines, laid_where, fill_strokes, pen_strokes, marker_strokes, strokes, strokes_of};
 
 use crate::hits::{hits_lines, hits_rings, is_covered, is_marked};
 use crate::sides::half_side;
@@ -12,8 +12,7 @@ use cv_model::{Feature, Geometry, Marker, Pen, Point2, Rgba, Symbol, View};
 
 /// A pixel with the strokes of a feature on it.
 pub fn with_feature(pixel: Rgba, feature: &Feature, symbol: &Symbol, view: &View, p: Point2) -> Rgba
-    requires { IsSymbol symbol.now }
-    ensures { result ≡ laid_on pixel (strokes symbol.now view.now p feature.now.geometry) }
+    ensures { result ≡ laid_on pixel (strokes (Some symbol.now) view.now p feature.now.geometry) }
 {
     match &feature.geometry {
         Some(geometry) => with_strokes(pixel, geometry, symbol, view, p),
@@ -22,9 +21,8 @@ pub fn with_feature(pixel: Rgba, feature: &Feature, symbol: &Symbol, view: &View
 }
 
 /// A pixel with the fill, the pen and the marker of a geometry on it, in this order.
-#[tactic(auto, using(crate::proofs::Laying::laid_on_append), unfolding(cv_model::specs::Pictures::strokes_of))]
+#[tactic(auto, using(crate::proofs::LayLemmas::laid_more), unfolding(cv_model::specs::Pictures::strokes_of))]
 fn with_strokes(pixel: Rgba, geometry: &Geometry, symbol: &Symbol, view: &View, p: Point2) -> Rgba
-    requires { IsSymbol symbol.now }
     ensures { result ≡ laid_on pixel (strokes_of symbol.now view.now p geometry.now) }
 {
     let filled = with_fill(pixel, geometry, symbol.fill, p);
@@ -44,15 +42,23 @@ fn with_fill(pixel: Rgba, geometry: &Geometry, fill: Option<Rgba>, p: Point2) ->
 
 /// A pixel with the pen on it: once where it hits rings, and once more where it hits lines.
 fn with_pen(pixel: Rgba, geometry: &Geometry, pen: Option<Pen>, view: &View, p: Point2) -> Rgba
-    requires { IfSome pen (λ pen. (1 ≤ pen.width) × (pen.width ≤ 64)) }
     ensures { result ≡ laid_on pixel (pen_strokes view.now p geometry.now pen) }
 {
-    let Some(pen) = pen else {
-        return pixel;
-    };
-    let r = half_side(view, pen.width);
-    let edged = with_colour(pixel, hits_rings(geometry, r, p), pen.colour);
-    with_colour(edged, hits_lines(geometry, r, p), pen.colour)
+    match pen {
+        Some(pen) => with_paths(pixel, geometry, pen.colour, half_side(view, pen.side()), p),
+        None => pixel,
+    }
+}
+
+/// A pixel with a colour on it where the pen of half-width `r` hits rings, and once more where it hits lines.
+#[tactic(auto, using(crate::proofs::LayLemmas::laid_more))]
+fn with_paths(pixel: Rgba, geometry: &Geometry, colour: Rgba, r: i64, p: Point2) -> Rgba
+    requires { IsRadius r }
+    ensures { result ≡ laid_on pixel
+        (laid_where (hits_rings r p geometry.now) colour ++ laid_where (hits_lines r p geometry.now) colour) }
+{
+    let edged = with_colour(pixel, hits_rings(geometry, r, p), colour);
+    with_colour(edged, hits_lines(geometry, r, p), colour)
 }
 
 /// A pixel with the marker on it, where it covers `p` from some point.
@@ -63,13 +69,12 @@ fn with_marker(
     view: &View,
     p: Point2,
 ) -> Rgba
-    requires { IfSome marker (λ marker. (1 ≤ marker.size) × (marker.size ≤ 256)) }
     ensures { result ≡ laid_on pixel (marker_strokes view.now p geometry.now marker) }
 {
     let Some(marker) = marker else {
         return pixel;
     };
-    let r = half_side(view, marker.size);
+    let r = half_side(view, marker.side());
     with_colour(
         pixel,
         is_marked(geometry, marker.shape, r, p),

@@ -1,6 +1,5 @@
 //! Worked pictures. A pixel is a map unit each way, and the bottom left one lies at the origin.
 ghost use Rattle.cv_model.specs.Positions.{IsCoordinate};
-ghost use Rattle.cv_model.specs.Symbols.{IsSymbol};
 
 use crate::quick;
 use cv_geom::view_of;
@@ -46,9 +45,7 @@ const BLUE: Rgba = Rgba {
 };
 
 /// A symbol of a fill alone.
-fn fill(colour: Rgba) -> Symbol
-    ensures { IsSymbol result }
-{
+fn fill(colour: Rgba) -> Symbol {
     Symbol {
         fill: Some(colour),
         pen: None,
@@ -57,9 +54,7 @@ fn fill(colour: Rgba) -> Symbol
 }
 
 /// A symbol of a pen of one pixel alone.
-fn pen(colour: Rgba) -> Symbol
-    ensures { IsSymbol result }
-{
+fn pen(colour: Rgba) -> Symbol {
     Symbol {
         fill: None,
         pen: Some(Pen { colour, width: 1 }),
@@ -68,9 +63,7 @@ fn pen(colour: Rgba) -> Symbol
 }
 
 /// A symbol of a red marker alone, of at least one pixel.
-fn marker(shape: Shape, size: u8) -> Symbol
-    ensures { IsSymbol result }
-{
+fn marker(shape: Shape, size: u8) -> Symbol {
     Symbol {
         fill: None,
         pen: None,
@@ -83,9 +76,7 @@ fn marker(shape: Shape, size: u8) -> Symbol
 }
 
 /// A red fill below a green pen of one pixel below a blue square of three.
-fn all_parts() -> Symbol
-    ensures { IsSymbol result }
-{
+fn all_parts() -> Symbol {
     Symbol {
         fill: Some(RED),
         pen: Some(Pen {
@@ -190,9 +181,7 @@ fn painted(
     second: Option<Geometry>,
     symbol: &Symbol,
     view: &View,
-) -> Result<String, Fail>
-    requires { IsSymbol symbol.now }
-{
+) -> Result<String, Fail> {
     let picture = quick(alloc, &features(alloc, first, second)?, symbol, view)?;
     let mut marks = String::new(alloc);
     for pixel in picture.pixels().as_slice() {
@@ -298,8 +287,9 @@ fn a_pen_is_laid_once_for_rings_and_once_for_lines(rt: HostRuntime) -> Result<()
 }
 
 /// A pixel that lies `a` columns and `b` rows from the point's is covered by a square of `size` pixels where
-/// `2 max(a, b) <= size`, by a diamond where `2 (a + b) <= size`, and by a circle where `4 (a a + b b) <= size size`.
-/// Each entry says how many pixels that covers, by this rule, in the rows that lie 0 to 5 rows from the point's.
+/// `2 max(a, b) <= size`, by a diamond where `2 (a + b) <= size`, and by a circle where `4 (a a + b b) <=
+/// size size`. Each entry says how many pixels that covers, by this rule, in the rows that lie 0 to 5 rows
+/// from the point's.
 #[test]
 fn a_marker_covers_its_shape(rt: HostRuntime) -> Result<(), Fail> {
     let alloc = rt.alloc();

@@ -16,7 +16,8 @@ use Rattle.std.specs.Result.{result_ok}
 use Rattle.std.proofs.lemmas.Option.{same_Some}
 use Rattle.cv_geom.specs.declared.views.ViewError.{ViewError}
 use Rattle.cv_model.specs.declared.colour.Rgb.{Rgb}
-use Rattle.cv_top.specs.Words.{IsCount, IsViewOf, IsPlan, IsQuick, QuickOrder}
+use Rattle.cv_top.specs.Parts.{QuickParts}
+use Rattle.cv_top.specs.Words.{IsCount, IsViewOf, IsPlan, IsQuick}
 
 -- ten digits fit 64 bits
 fits : (word : List ℕ) (n : ℕ) → IsCount word n → digits_value 10 word < 2 ^ 64
@@ -105,21 +106,27 @@ pub held : (ws : List (List ℕ)) (i : ℕ) (x a : List ℕ) → x ≡ a → a �
 held ws i x a e is = subst (λ (y : List ℕ). y ≡ get_or ws i y) (sym e) is
 
 -- the order whose words these are
-abbrev pub ordered : List ℕ → List ℕ → PixelGrid → Rgb → QuickOrder
+abbrev pub ordered : List ℕ → List ℕ → PixelGrid → Rgb → QuickParts
 ordered csv out view fill = record { csv = csv; out = out; view = view; fill = fill }
+
+-- an order is made of its four parts
+pub same_order : (csv out : List ℕ) (view : PixelGrid) (fill : Rgb) (order : QuickParts) → csv ≡ order.csv → out ≡ order.out → view ≡ order.view → fill ≡ order.fill → Some (ordered csv out view fill) ≡ Some order
+same_order csv out view fill order c o v f =
+    ap Some (ap (λ x. ordered x out view fill) c ∙ ap (λ x. ordered order.csv x view fill) o
+    ∙ ap (λ x. ordered order.csv order.out x fill) v ∙ ap (λ x. ordered order.csv order.out order.view x) f)
 
 -- the ten words of a command
 abbrev pub ten : (a b c d e f g h i j : List ℕ) → List (List ℕ)
 ten a b c d e f g h i j = a ∷ b ∷ c ∷ d ∷ e ∷ f ∷ g ∷ h ∷ i ∷ j ∷ []
 
 -- what an order's words say of the ten words read
-pub record IsOrdered (a b c d e f g h i j : List ℕ) (order : QuickOrder) : Type 0 where
+pub record IsOrdered (a b c d e f g h i j : List ℕ) (order : QuickParts) : Type 0 where
   pub command : a ≡ codes "quick"
   pub csv : b ≡ order.csv
   pub out : c ≡ order.out
   pub plan : IsPlan d e f g h i j order.view order.fill
 
-pub is_ordered : (words : List (List ℕ)) (a b c d e f g h i j : List ℕ) (order : QuickOrder) → words ≡ ten a b c d e f g h i j → IsQuick words order → IsOrdered a b c d e f g h i j order
+pub is_ordered : (words : List (List ℕ)) (a b c d e f g h i j : List ℕ) (order : QuickParts) → words ≡ ten a b c d e f g h i j → IsQuick words order → IsOrdered a b c d e f g h i j order
 is_ordered words a b c d e f g h i j order read q =
     let same : ten a b c d e f g h i j ≡ ten (codes "quick") order.csv order.out q.w q.h q.xmin q.ymin q.xmax q.ymax q.colour = sym read ∙ q.spelled in
     let at : ℕ → List (List ℕ) → List ℕ = λ n l. get_or l n [] in record {

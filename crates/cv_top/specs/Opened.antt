@@ -1,9 +1,13 @@
--- What the file of a layer says: the features of a delimited text, or why its bytes are refused.
+-- What the file of a layer says: the features of a delimited text, or why its bytes are refused; and the
+-- picture of these features.
 use Rattle.std.specs.Prelude.{ℕ, nat_lt, if◌then◌else◌, List, length, codes, Result, Ok, Err}
 use Rattle.cv_model.specs.declared.colour.Rgb.{Rgb}
 use Rattle.cv_model.specs.declared.delimiter.Delimiter.TheVariants.{Comma}
 use Rattle.cv_model.specs.Features.{FeatureTable}
+use Rattle.cv_model.specs.Views.{PixelGrid}
 use Rattle.cv_model.specs.Layers.{ProjectParts, features_project}
+use Rattle.cv_model.specs.Pictures.{picture}
+use Rattle.cv_model.specs.Rasters.{ppm_of}
 use Rattle.cv_model.specs.Symbols.{filled}
 use Rattle.cv_dtext.specs.declared.options.TextOptions.{TextOptions}
 use Rattle.cv_dtext.specs.declared.options.TextError.{TextError}
@@ -30,8 +34,13 @@ as_layer (Err e) = Err (Text e)
 
 -- the features that a file's bytes spell, or why the bytes are refused
 unfoldable pub layer_of : List ℕ → Result FeatureTable DataError
-layer_of bytes = if nat_lt most_bytes (length bytes) then Err TooLong else as_layer (features_of quick_options bytes)
+layer_of bytes =
+    if nat_lt most_bytes (length bytes) then Err TooLong else as_layer (features_of quick_options bytes)
 
 -- the project of `quick`: one layer of these features with an opaque fill, over white
 abbrev pub quick_project : FeatureTable → Rgb → ProjectParts
 quick_project table fill = features_project table.features (filled fill)
+
+-- the bytes of the picture of these features
+abbrev pub picture_bytes : FeatureTable → Rgb → PixelGrid → List ℕ
+picture_bytes table fill view = ppm_of (picture (quick_project table fill) view)

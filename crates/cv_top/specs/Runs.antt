@@ -1,125 +1,150 @@
--- What a run of `quick` leaves behind, by the end that it answers.
-use Rattle.std.specs.Prelude.{◌≡◌, ℕ, ◌≤◌, ◌⊎◌, List, [], ◌∷◌, ◌++◌, length, take, codes, Option, None, IsSomeAnd, Ok, Err}
-use Rattle.std.specs.Fmt.{decimal}
-use Rattle.cv_model.specs.declared.colour.Rgb.{Rgb}
-use Rattle.cv_model.specs.Views.{PixelGrid}
-use Rattle.cv_model.specs.Features.{FeatureTable}
-use Rattle.cv_model.specs.Rasters.{ppm_of}
-use Rattle.cv_model.specs.Pictures.{picture}
+-- What a run is: its end, and what stands of its devices.
+use Rattle.std.specs.Prelude.{◌≡◌, ◌↔◌, ℕ, ◌+◌, ◌-◌, ◌≤◌, ◌⊎◌, Some, option_map, IsTrue}
+use Rattle.std.specs.Prelude.{List, [], ◌∷◌, ◌++◌, length, take, map, slice_get}
+use Rattle.cv_outside.specs.declared.ends.TrayEnd.TheVariants.{Kept}
+use Rattle.cv_outside.specs.declared.shelves.Shelf.{Ghosts as ShelfGhosts}
+use Rattle.cv_outside.specs.declared.sinks.Sink.{Ghosts as SinkGhosts}
+use Rattle.cv_outside.specs.declared.trays.Tray.{Ghosts as TrayGhosts}
+use Rattle.cv_outside.specs.Counts.{Rose}
 use Rattle.cv_outside.specs.Reads.{SameFiles}
-use Rattle.cv_outside.specs.Writes.{OthersStay}
+use Rattle.cv_outside.specs.Seen.{NamedFiles, ShelfSeen, TraySeen, SinkSeen, shelf_seen, tray_seen, sink_seen}
+use Rattle.cv_outside.specs.Seen.{ShelfStands, TrayStands, SinkStands}
+use Rattle.cv_outside.specs.Writes.{OthersStay, Writes}
 use Rattle.cv_top.specs.declared.ends.End.{End}
-use Rattle.cv_top.specs.declared.ends.End.TheVariants.{Done, NoMemory, Usage, BadData, ReadFault, WriteFault, Missing}
+use Rattle.cv_top.specs.declared.ends.End.TheVariants.{Done, NoMemory, Usage, BadData, Missing}
+use Rattle.cv_top.specs.declared.ends.End.TheVariants.{ReadFault, WriteFault}
 use Rattle.cv_top.specs.declared.ends.Which.{Which}
 use Rattle.cv_top.specs.declared.ends.Which.TheVariants.{Layer, Output, Text}
-use Rattle.cv_top.specs.declared.ends.DataError.{DataError}
-use Rattle.cv_top.specs.Opened.{layer_of, quick_project}
+use Rattle.cv_top.specs.declared.orders.Order.{Order}
+use Rattle.cv_top.specs.Outcomes.{Asked, Written, Product, Outcome, FilesFound, IsOutcome}
+use Rattle.cv_top.specs.Outcomes.{end_of, files_of, text_of}
+use Rattle.cv_top.specs.Words.{IsOrder, IsNoForm}
 
--- the file is there and spells features
-abbrev pub IsInForm : Option (List ℕ) → Type 0
-IsInForm file = IsSomeAnd file (λ bytes. (table : FeatureTable) × (layer_of bytes ≡ Ok table))
+-- the name asked at a place, counted from 0, is that of this file
+abbrev pub IsAskedAt : ℕ → Which → List Asked → Type 0
+IsAskedAt n which asked = option_map (λ a. a.which) (slice_get asked n) ≡ Some which
 
--- the file is there and its bytes are refused with this error
-abbrev pub IsRefusedAs : Option (List ℕ) → DataError → Type 0
-IsRefusedAs file error = IsSomeAnd file (λ bytes. layer_of bytes ≡ Err error)
+-- the cause of each end: a refusal is the product's own; a fault is one of the file asked, of the output of
+-- this number or of the text, whose count rose; for a missing file the count of misses rose too
+abbrev pub HasCause : End → Product → (read : Which → Type 0) → (miss write print : Type 0) → Type 0
+HasCause Done p read miss write print = end_of p ≡ Done
+HasCause NoMemory p read miss write print = Unit {0}
+HasCause Usage p read miss write print = ⊥
+HasCause (BadData place error) p read miss write print = end_of p ≡ BadData place error
+HasCause (Missing which) p read miss write print = (end_of p ≡ Missing which) × miss
+HasCause (ReadFault which) p read miss write print = read which
+HasCause (WriteFault (Output k)) p read miss write print =
+    (end_of p ≡ Done) × (1 ≤ k) × (k ≤ length (files_of p)) × write
+HasCause (WriteFault Text) p read miss write print = (end_of p ≡ Done) × print
+HasCause (WriteFault (Layer place)) p read miss write print = ⊥
 
--- the bytes of the picture of these features
-abbrev pub picture_bytes : FeatureTable → Rgb → PixelGrid → List ℕ
-picture_bytes table fill view = ppm_of (picture (quick_project table fill) view)
+-- what no call was made on: at no form the three devices, at a refusal and a failed read tray and sink, at
+-- an output's fault the sink
+abbrev pub Untouched : End → (shelf tray out : Type 0) → Type 0
+Untouched Usage shelf tray out = shelf × tray × out
+Untouched (BadData place error) shelf tray out = tray × out
+Untouched (ReadFault which) shelf tray out = tray × out
+Untouched (Missing which) shelf tray out = tray × out
+Untouched (WriteFault (Output k)) shelf tray out = out
+Untouched (WriteFault Text) shelf tray out = Unit {0}
+Untouched (WriteFault (Layer place)) shelf tray out = Unit {0}
+Untouched Done shelf tray out = Unit {0}
+Untouched NoMemory shelf tray out = Unit {0}
 
--- these are the bytes of the picture of what the file spells
-abbrev pub IsPictureOf : Option (List ℕ) → Rgb → PixelGrid → List ℕ → Type 0
-IsPictureOf file fill view made =
-    IsSomeAnd file (λ bytes. (table : FeatureTable)
-    × (layer_of bytes ≡ Ok table) × (made ≡ picture_bytes table fill view))
+-- the names asked: all of them; up to the file whose read failed; the first so many of them at want of memory
+abbrev pub Asks : End → List Asked → (old new : List (List ℕ)) → Type 0
+Asks NoMemory asked old new = (n : ℕ) × (new ≡ old ++ map (λ a. a.name) (take n asked))
+Asks (ReadFault which) asked old new =
+    (n : ℕ) × IsAskedAt n which asked × (new ≡ old ++ map (λ a. a.name) (take (n + 1) asked))
+Asks end asked old new = new ≡ old ++ map (λ a. a.name) asked
 
--- what `quick` prints: the size of its picture
-abbrev pub image_line : PixelGrid → List ℕ
-image_line view = codes "image " ++ (decimal view.w ++ ((32 ∷ []) ++ (decimal view.h ++ 10 ∷ [])))
+-- the files behind these writes, one after the other
+abbrev pub Puts : List Written → (old new : NamedFiles) → Type 0
+Puts [] old new = SameFiles old new
+Puts (w ∷ ws) old new = (mid : NamedFiles) × Writes Kept old mid w.name w.bytes × Puts ws mid new
 
--- the output or the text whose write failed, and the count that rose
-abbrev pub WriteCause : Which → Type 0 → Type 0 → Type 0
-WriteCause (Layer place) write print = ⊥
-WriteCause (Output k) write print = (k ≡ 1) × write
-WriteCause Text write print = print
+-- the files behind the write at this place, counted from 0, that failed: those before it are put, and under
+-- its name stands whatever it is
+pub record Breaks (place : ℕ) (files : List Written) (old new : NamedFiles) : Type 0 where
+  pub mid : NamedFiles
+  pub before : Puts (take place files) old mid
+  pub failed : Written
+  pub is : slice_get files place ≡ Some failed
+  pub others : OthersStay mid new failed.name
 
--- what an end says is so: the words are no form, the bytes are refused, or a count of the outside rose: the shelf's
--- faults (`read`) or misses (`miss`), the tray's faults (`write`) or the sink's (`print`)
-abbrev pub HasCause : End → (usage refused read miss write print : Type 0) → Type 0
-HasCause Done usage refused read miss write print = Unit {0}
-HasCause NoMemory usage refused read miss write print = Unit {0}
-HasCause Usage usage refused read miss write print = usage
-HasCause (BadData place error) usage refused read miss write print = (place ≡ 0) × refused
-HasCause (ReadFault which) usage refused read miss write print = (which ≡ Layer 0) × read
-HasCause (WriteFault which) usage refused read miss write print = WriteCause which write print
-HasCause (Missing which) usage refused read miss write print = (which ≡ Layer 0) × miss
+-- the tray's files: all are put; those before a fault; the first so many of them at want of memory; none
+abbrev pub Keeps : End → List Written → (old new : NamedFiles) → Type 0
+Keeps Done files old new = Puts files old new
+Keeps (WriteFault Text) files old new = Puts files old new
+Keeps (WriteFault (Output k)) files old new = Breaks (k - 1) files old new
+Keeps NoMemory files old new = (n : ℕ) × Puts (take n files) old new
+Keeps end files old new = SameFiles old new
 
--- the names asked: the file's, once, but for want of memory and words that are no form
-abbrev pub AsksFor : End → List (List ℕ) → List (List ℕ) → List ℕ → Type 0
-AsksFor Usage old new name = new ≡ old
-AsksFor NoMemory old new name = (new ≡ old) ⊎ (new ≡ old ++ name ∷ [])
-AsksFor Done old new name = new ≡ old ++ name ∷ []
-AsksFor (BadData place error) old new name = new ≡ old ++ name ∷ []
-AsksFor (ReadFault which) old new name = new ≡ old ++ name ∷ []
-AsksFor (WriteFault which) old new name = new ≡ old ++ name ∷ []
-AsksFor (Missing which) old new name = new ≡ old ++ name ∷ []
+-- what the sink took: the whole text; a front of it at its own fault and want of memory; nothing
+abbrev pub Prints : End → (text old new : List ℕ) → Type 0
+Prints Done text old new = new ≡ old ++ text
+Prints (WriteFault Text) text old new = (n : ℕ) × (new ≡ old ++ take n text)
+Prints NoMemory text old new = (n : ℕ) × (new ≡ old ++ take n text)
+Prints end text old new = new ≡ old
 
--- the file under the name that was asked
-abbrev pub FileWas : End → Option (List ℕ) → Type 0
-FileWas Done file = IsInForm file
-FileWas NoMemory file = Unit {0}
-FileWas Usage file = Unit {0}
-FileWas (BadData place error) file = IsRefusedAs file error
-FileWas (ReadFault which) file = Unit {0}
-FileWas (WriteFault which) file = IsInForm file
-FileWas (Missing which) file = file ≡ None
+-- without a fault of the shelf, nor of tray and sink where nothing is refused, the end is the product's, but
+-- for want of memory
+abbrev pub IsComplete : End → Product → (read write print : Type 0) → Type 0
+IsComplete end p read write print =
+    ¬ read → (end_of p ≡ Done → (¬ write) × (¬ print)) → (end ≡ end_of p) ⊎ (end ≡ NoMemory)
 
--- a refusal before the run writes nothing; after any other end the files but the output are as before
-abbrev pub FilesStay : End → (List ℕ → Option (List ℕ)) → (List ℕ → Option (List ℕ)) → List ℕ → Type 0
-FilesStay Usage old new name = SameFiles old new
-FilesStay (BadData place error) old new name = SameFiles old new
-FilesStay (ReadFault which) old new name = SameFiles old new
-FilesStay (Missing which) old new name = SameFiles old new
-FilesStay Done old new name = OthersStay old new name
-FilesStay NoMemory old new name = OthersStay old new name
-FilesStay (WriteFault which) old new name = OthersStay old new name
+-- the part of a run behind its reads, which have given this product
+pub record IsWritten (end : End) (p : Product) (tray tray' : TraySeen) (out out' : SinkSeen) : Type 0 where
+  pub cause : HasCause end p (λ _. ⊥) ⊥ (Rose tray.faults tray'.faults) (Rose out.faults out'.faults)
+  pub outputs : IsTrue tray.tells → Keeps end (files_of p) tray.files tray'.files
+  pub text : IsTrue out.tells → Prints end (text_of p) out.taken out'.taken
+  pub tray_stands : TrayStands tray tray'
+  pub out_stands : SinkStands out out'
 
--- the output: whole after the run, as before or whole after want of memory, unspecified after its own fault
-abbrev pub OutputIs : End → (List ℕ → Type 0) → Option (List ℕ) → Option (List ℕ) → Type 0
-OutputIs Done IsWhole old new = IsSomeAnd new IsWhole
-OutputIs NoMemory IsWhole old new = (new ≡ old) ⊎ IsSomeAnd new IsWhole
-OutputIs Usage IsWhole old new = new ≡ old
-OutputIs (BadData place error) IsWhole old new = new ≡ old
-OutputIs (ReadFault which) IsWhole old new = new ≡ old
-OutputIs (Missing which) IsWhole old new = new ≡ old
-OutputIs (WriteFault Text) IsWhole old new = IsSomeAnd new IsWhole
-OutputIs (WriteFault (Output k)) IsWhole old new = Unit {0}
-OutputIs (WriteFault (Layer place)) IsWhole old new = ⊥
+-- a run of an order: what the order gives over the files that the reads found, the shelf's own where it tells
+pub record IsRunOf
+    (order : Order) (end : End) (shelf shelf' : ShelfSeen) (tray tray' : TraySeen) (out out' : SinkSeen)
+    : Type 0 where
+  pub reads : FilesFound
+  pub told : IsTrue shelf.tells → (n : ℕ) → reads n ≡ shelf.files
+  pub outcome : Outcome
+  pub gives : IsOutcome order reads outcome
+  pub cause :
+      HasCause end outcome.product
+      (λ which. (n : ℕ) × IsAskedAt n which outcome.asked × Rose shelf.faults shelf'.faults)
+      (Rose shelf.misses shelf'.misses) (Rose tray.faults tray'.faults) (Rose out.faults out'.faults)
+  pub names : IsTrue shelf.tells → Asks end outcome.asked shelf.asked shelf'.asked
+  pub outputs : IsTrue tray.tells → Keeps end (files_of outcome.product) tray.files tray'.files
+  pub text : IsTrue out.tells → Prints end (text_of outcome.product) out.taken out'.taken
+  pub complete :
+      IsComplete end outcome.product
+      (Rose shelf.faults shelf'.faults) (Rose tray.faults tray'.faults) (Rose out.faults out'.faults)
 
--- the text comes behind what was taken, but for some bytes of its end
-abbrev pub IsPartOf : List ℕ → List ℕ → List ℕ → Type 0
-IsPartOf old new text = (k : ℕ) × (k ≤ length text) × (new ≡ old ++ take k text)
+-- a run that obeys an order, with what stands of its devices
+pub record Obeys {F T O : Type 0} (f : ShelfGhosts F) (t : TrayGhosts T) (o : SinkGhosts O)
+    (order : Order) (end : End) (shelf shelf' : F) (tray tray' : T) (out out' : O) : Type 0 where
+  pub untouched : Untouched end ⊥ (tray' ≡ tray) (out' ≡ out)
+  pub shelf_stands : ShelfStands (shelf_seen f shelf) (shelf_seen f shelf')
+  pub tray_stands : TrayStands (tray_seen t tray) (tray_seen t tray')
+  pub out_stands : SinkStands (sink_seen o out) (sink_seen o out')
+  pub run :
+      IsRunOf order end (shelf_seen f shelf) (shelf_seen f shelf') (tray_seen t tray) (tray_seen t tray')
+      (sink_seen o out) (sink_seen o out')
 
--- what the sink has got: the whole text after the run, a front of it after a fault of the sink and want of memory
-abbrev pub Prints : End → List ℕ → List ℕ → List ℕ → Type 0
-Prints Done old new text = new ≡ old ++ text
-Prints NoMemory old new text = IsPartOf old new text
-Prints Usage old new text = new ≡ old
-Prints (BadData place error) old new text = new ≡ old
-Prints (ReadFault which) old new text = new ≡ old
-Prints (Missing which) old new text = new ≡ old
-Prints (WriteFault Text) old new text = IsPartOf old new text
-Prints (WriteFault (Output k)) old new text = new ≡ old
-Prints (WriteFault (Layer place)) old new text = ⊥
+-- a run of a command: Usage exactly where the words are no form, and else a run of what they ask for
+pub record IsRun {F T O : Type 0} (f : ShelfGhosts F) (t : TrayGhosts T) (o : SinkGhosts O)
+    (end : End) (words : List (List ℕ)) (shelf shelf' : F) (tray tray' : T) (out out' : O) : Type 0 where
+  pub usage : (end ≡ Usage) ↔ IsNoForm words
+  pub untouched : Untouched end (shelf' ≡ shelf) (tray' ≡ tray) (out' ≡ out)
+  pub shelf_stands : ShelfStands (shelf_seen f shelf) (shelf_seen f shelf')
+  pub tray_stands : TrayStands (tray_seen t tray) (tray_seen t tray')
+  pub out_stands : SinkStands (sink_seen o out) (sink_seen o out')
+  pub run :
+      (order : Order) → IsOrder words order → IsRunOf order end (shelf_seen f shelf) (shelf_seen f shelf')
+      (tray_seen t tray) (tray_seen t tray') (sink_seen o out) (sink_seen o out')
 
--- all was done, but for want of memory
-abbrev pub IsDone : End → Type 0
-IsDone end = (end ≡ Done) ⊎ (end ≡ NoMemory)
-
--- the bytes were refused with this error, but for want of memory
-abbrev pub IsRefused : End → DataError → Type 0
-IsRefused end error = (end ≡ BadData 0 error) ⊎ (end ≡ NoMemory)
-
--- the file was missing, but for want of memory
-abbrev pub IsMissing : End → Type 0
-IsMissing end = (end ≡ Missing (Layer 0)) ⊎ (end ≡ NoMemory)
+-- no device failed
+abbrev pub IsNoFault : End → Type 0
+IsNoFault (ReadFault which) = ⊥
+IsNoFault (WriteFault which) = ⊥
+IsNoFault end = Unit {0}

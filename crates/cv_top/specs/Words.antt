@@ -1,4 +1,4 @@
--- The words of `quick`.
+-- The words of each command.
 use Rattle.std.specs.Prelude.{◌≡◌, ℕ, ℤ, ◌≤◌, List, [], ◌∷◌, length, take, drop, Ok, codes}
 use Rattle.std.specs.Str.Parse.{AllDigits, IsNumeral, digits_value}
 use Rattle.cv_model.specs.declared.colour.Rgb.{Rgb}
@@ -7,6 +7,9 @@ use Rattle.cv_model.specs.Views.{PixelGrid}
 use Rattle.cv_geom.specs.Views.{view_of}
 use Rattle.cv_decimal.specs.declared.fixed.Fixed.TheVariants.{Value}
 use Rattle.cv_decimal.specs.Spellings.{Spells}
+use Rattle.cv_top.specs.declared.orders.Order.{Order}
+use Rattle.cv_top.specs.declared.orders.Order.TheVariants.{Quick}
+use Rattle.cv_top.specs.Parts.{QuickParts}
 
 -- one to ten digits of this value
 pub record IsCount (word : List ℕ) (n : ℕ) : Type 0 where
@@ -37,13 +40,6 @@ pub record IsExtentOf (xmin ymin xmax ymax : List ℕ) (e : Rectangle) : Type 0 
   pub east : IsValueOf xmax e.xmax
   pub north : IsValueOf ymax e.ymax
 
--- what the words of `quick` ask for: the file to read, the picture to write, its view, and the fill
-pub record QuickOrder : Type 0 where
-  pub csv : List ℕ
-  pub out : List ℕ
-  pub view : PixelGrid
-  pub fill : Rgb
-
 -- two words are a size at which the extent gives the view
 pub record IsViewOf (w h : List ℕ) (e : Rectangle) (view : PixelGrid) : Type 0 where
   pub width : IsCount w view.w
@@ -58,7 +54,7 @@ pub record IsPlan (w h xmin ymin xmax ymax colour : List ℕ) (view : PixelGrid)
   pub fill_is : IsColour colour fill
 
 -- the words are `quick` and the nine words of this order
-pub record IsQuick (words : List (List ℕ)) (order : QuickOrder) : Type 0 where
+pub record IsQuick (words : List (List ℕ)) (order : QuickParts) : Type 0 where
   pub w : List ℕ
   pub h : List ℕ
   pub xmin : List ℕ
@@ -71,6 +67,10 @@ pub record IsQuick (words : List (List ℕ)) (order : QuickOrder) : Type 0 where
       ≡ codes "quick" ∷ order.csv ∷ order.out ∷ w ∷ h ∷ xmin ∷ ymin ∷ xmax ∷ ymax ∷ colour ∷ []
   pub plan : IsPlan w h xmin ymin xmax ymax colour order.view order.fill
 
--- the words are no form of a command
+-- the words are a command's form, and ask for this
+abbrev pub IsOrder : List (List ℕ) → Order → Type 0
+IsOrder words (Quick order) = IsQuick words order
+
+-- the words are no command's form
 abbrev pub IsNoForm : List (List ℕ) → Type 0
-IsNoForm words = (order : QuickOrder) → IsQuick words order → ⊥
+IsNoForm words = (order : Order) → IsOrder words order → ⊥

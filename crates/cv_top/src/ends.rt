@@ -1,10 +1,11 @@
 //! How a command ends.
 
-ghost use Rattle.std.specs.Prelude.{◌≡◌};
-ghost use Rattle.cv_top.specs.Ends.{status_of};
+ghost use Rattle.std.specs.Prelude.{◌≡◌, Some};
+ghost use Rattle.cv_top.specs.Ends.{status_of, text_of_end, text_of_data};
 
 use cv_dtext::TextError;
-use thiserror::Error;
+use std::error::Error;
+use std::fmt;
 
 /// The file or the text that an end speaks of.
 #[derive(Clone, Copy, Debug, PartialEq, Eq)]
@@ -17,7 +18,7 @@ pub enum Which {
     Text,
 }
 
-/// Why the bytes of a layer were refused.
+/// Why the bytes of a layer were refused. Its text says so in words.
 #[derive(Clone, Copy, Debug, PartialEq, Eq)]
 pub enum DataError {
     /// They are no delimited text with a column of geometries, or have more in them than is read.
@@ -27,28 +28,21 @@ pub enum DataError {
 }
 
 /// How a command ended. Its text is what a program writes on standard error.
-#[derive(Clone, Copy, Debug, PartialEq, Eq, Error)]
+#[derive(Clone, Copy, Debug, PartialEq, Eq)]
 pub enum End {
     /// All was read, done and written.
-    #[error("")]
     Done,
-    /// Want of memory.
-    #[error("out of memory")]
+    /// Memory ran out.
     NoMemory,
     /// The words are no command.
-    #[error("usage")]
     Usage,
     /// The bytes of the layer at this place, from 0, were refused.
-    #[error("bad data in layer {0}")]
     BadData(u32, DataError),
     /// A read failed.
-    #[error("read fault")]
     ReadFault(Which),
     /// A write failed.
-    #[error("write fault")]
     WriteFault(Which),
     /// A file is not there.
-    #[error("file missing")]
     Missing(Which),
 }
 
@@ -69,32 +63,41 @@ impl End {
     }
 }
 
-#[cfg(test)]
-mod tests {
-    use super::*;
-    use std::test::Fail;
+impl fmt::Display for End {
+    ghost output = { λ end. Some (text_of_end end) };
 
-    #[test]
-    fn ends_have_their_texts_and_statuses(rt: HostRuntime) -> Result<(), Fail> {
-        let alloc = rt.alloc();
-        let rows = [
-            (End::Done, 0, ""),
-            (End::NoMemory, 1, "out of memory"),
-            (End::Usage, 2, "usage"),
-            (
-                End::BadData(3, DataError::Text(TextError::NoHeader)),
-                4,
-                "bad data in layer 3",
-            ),
-            (End::ReadFault(Which::Layer(0)), 6, "read fault"),
-            (End::WriteFault(Which::Text), 7, "write fault"),
-            (End::Missing(Which::Layer(0)), 8, "file missing"),
-        ];
-        for (end, status, text) in rows {
-            assert_eq!(rt; end.status(), status, "{text}");
-            let printed = format!(in alloc; "{end}")?;
-            assert_eq!(rt; printed.as_str(), text);
+    fn fmt<W: fmt::Write>(&self, f: &mut fmt::Formatter<W>) -> fmt::Result {
+        match self {
+            End::Done => Ok(()),
+            End::NoMemory => write!(f, "out of memory"),
+            End::Usage => write!(f, "usage"),
+            End::BadData(place, _) => write!(f, "bad data in layer {place}"),
+            End::ReadFault(_) => write!(f, "read fault"),
+            End::WriteFault(_) => write!(f, "write fault"),
+            End::Missing(_) => write!(f, "file missing"),
         }
-        Ok(())
     }
 }
+
+impl Error for End {}
+
+impl fmt::Display for DataError {
+    ghost output = { λ error. Some (text_of_data error) };
+
+    fn fmt<W: fmt::Write>(&self, f: &mut fmt::Formatter<W>) -> fmt::Result {
+        let error = match self {
+            DataError::TooLong => return write!(f, "too many bytes"),
+            DataError::Text(error) => error,
+        };
+        match error {
+            TextError::NoHeader => write!(f, "no header"),
+            TextError::NoGeometryColumn => write!(f, "no column of geometries"),
+            TextError::Uneven(row) => write!(f, "another number of fields in record {row}"),
+            TextError::NotUtf8(row) => write!(f, "no UTF-8 in record {row}"),
+            TextError::TooMany => write!(f, "too many features, vertices or values"),
+            TextError::NoMemory => write!(f, "out of memory"),
+        }
+    }
+}
+
+impl Error for DataError {}

@@ -1,19 +1,22 @@
 //! The top call: from the words of a command and the devices of a host to an end.
 //!
-//! Contract: at each end, what was asked, read, written and printed, with the cause of each answer outside.
-//! Definitions: `Words`, `Opened`, `Ends` and `Runs` of this crate, over those of `cv_model` and `cv_dtext`.
+//! Contract: a run is what the words ask for over the files that it read (`IsRun`): at each end what was
+//! asked, read, written and printed, with the cause of each answer outside.
+//! Definitions: `Parts`, `Words`, `Opened`, `Outcomes`, `Ends` and `Runs` of this crate, over those of
+//! `cv_model` and `cv_dtext`.
 //! Takes memory for what is read and painted; `run` takes a handle that may wait, and doesn't wait.
 #![tactic(auto)]
 
-pub mod ends;
+mod ends;
 mod layer;
+mod orders;
 mod outputs;
 mod quick;
 mod top;
 mod words;
 
 pub use ends::{DataError, End, Which};
-pub use top::{run, run_once};
+pub use top::{run, run_once, run_surely};
 
 #[cfg(test)]
 mod tests;

@@ -1,9 +1,9 @@
 //! What a command writes: its picture and its text.
 
-ghost use Rattle.std.specs.Prelude.{◌≡◌, ℕ, List, IfOk, IsTrue, string_bytes};
-ghost use Rattle.cv_model.specs.Views.{PixelGrid};
-ghost use Rattle.cv_outside.specs.Counts.{Rose};
-ghost use Rattle.cv_top.specs.Runs.{image_line, HasCause, FilesStay, OutputIs, Prints};
+ghost use Rattle.std.specs.Prelude.{◌≡◌, IfOk, string_bytes};
+ghost use Rattle.cv_outside.specs.Seen.{tray_seen, sink_seen};
+ghost use Rattle.cv_top.specs.Outcomes.{image_line, one_made};
+ghost use Rattle.cv_top.specs.Runs.{Untouched, IsWritten};
 
 use crate::ends::{End, Which};
 use cv_model::{NoMemory, View};
@@ -27,13 +27,10 @@ pub(crate) fn write_outputs<T: Tray, O: Sink>(
     tray: &mut T,
     out: &mut O,
 ) -> End
-    ensures cause { HasCause result ⊥ ⊥ ⊥ ⊥ (Rose (T.faults tray.old) (T.faults tray.new))
-        (Rose (O.faults out.old) (O.faults out.new)) }
-    ensures files { IsTrue (T.tells tray.old)
-        → FilesStay result (T.file_at tray.old) (T.file_at tray.new) name.now }
-    ensures output { IsTrue (T.tells tray.old) → OutputIs result (λ made. made ≡ bytes.now)
-        (T.file_at tray.old name.now) (T.file_at tray.new name.now) }
-    ensures text { IsTrue (O.tells out.old) → Prints result (O.taken out.old) (O.taken out.new) text.now }
+    ensures untouched { Untouched result ⊥ ⊥ (out.new ≡ out.old) }
+    ensures written { IsWritten result (one_made name.now bytes.now text.now)
+        (tray_seen T.Tray tray.old) (tray_seen T.Tray tray.new)
+        (sink_seen O.Sink out.old) (sink_seen O.Sink out.new) }
 {
     match tray.write(name, bytes) {
         TrayEnd::Failed => End::WriteFault(Which::Output(1)),

@@ -1,17 +1,16 @@
-//! The command over devices in memory: worked maps, each device failing in turn, and words that are no form.
+//! The command over devices in memory: worked maps, each device failing in turn, words that are no form, and
+//! a large map.
 use super::*;
 use cv_dtext::TextError;
-use cv_model::{NoMemory, Sequence, Text};
 use cv_outside::{
-    MemShelf, MemSink, MemTray, Open, Shelf, Sink, SureShelf, SureSink, SureTray, Tray,
+    MemShelf, MemSink, MemTray, Open, ReadEnd, Shelf, Sink, SureShelf, SureSink, SureTray, Tray,
+    one_file,
 };
+use cv_testing::{pixmap, words_of};
 use std::alloc::{AllocError, Global};
-use std::collections::BTreeMap;
 use std::sync::Wait;
 use std::test::Fail;
 use std::thread::Threads;
-
-type Files = BTreeMap<String, Vec<u8>>;
 
 const SQUARE: &str = "wkt\n\"POLYGON((1 1,3 1,3 3,1 3,1 1))\"\n";
 
@@ -19,47 +18,7 @@ const FOUR: &str = "quick sq.csv sq.ppm 4 4 0 0 4 4 ff0000";
 
 const ALL: u64 = u64::MAX;
 
-// A map of one file, or of none where its name is empty.
-fn files(alloc: Global, name: &str, bytes: &[u8]) -> Result<Files, AllocError> {
-    let mut files = BTreeMap::new(alloc);
-    if !name.is_empty() {
-        let bytes = Vec::from_slice(alloc, bytes)?;
-        files.insert(String::from_str(alloc, name)?, bytes)?;
-    }
-    Ok(files)
-}
-
-// The words of a line, between single spaces, or between bars where it has some.
-fn words(alloc: Global, line: &str) -> Result<Sequence<Text>, NoMemory> {
-    let mut words = Sequence::new(alloc);
-    let between = if line.contains('|') { '|' } else { ' ' };
-    for word in line.split(between) {
-        words.put(Text::of(alloc, word)?)?;
-    }
-    Ok(words)
-}
-
-// The pixmap of these rows, with `/` between them: `#` is red, `.` white.
-fn pixmap(alloc: Global, rows: &str, size: &str) -> Result<Vec<u8>, AllocError> {
-    let mut bytes = Vec::from_slice(alloc, b"P6\n")?;
-    bytes.extend_from_slice(size.as_bytes())?;
-    bytes.extend_from_slice(b"\n255\n")?;
-    for pixel in rows.as_bytes() {
-        if *pixel != b'/' {
-            let rest = if *pixel == b'#' { 0 } else { 255 };
-            bytes.extend_from_slice(&[255, rest, rest])?;
-        }
-    }
-    Ok(bytes)
-}
-
-// The bytes of a file, or of no file.
-fn bytes_of<'a>(files: &'a Files, name: &str) -> &'a [u8] {
-    match files.get(name) {
-        Some(bytes) => bytes,
-        None => b"-",
-    }
-}
+const RED: [u8; 3] = [255, 0, 0];
 
 // The command at these types, through its bounds.
 fn play<F: Shelf, T: Tray, O: Sink>(
@@ -69,8 +28,23 @@ fn play<F: Shelf, T: Tray, O: Sink>(
     tray: &mut T,
     out: &mut O,
 ) -> End {
-    match words(alloc, line) {
+    match words_of(alloc, line) {
         Ok(words) => run_once(alloc, words.as_slice(), shelf, tray, out),
+        Err(_) => End::NoMemory,
+    }
+}
+
+// The same call with a handle and a gate, at these types.
+fn play_with<R: Threads + Wait + Sync, F: Shelf, T: Tray + Send, O: Sink>(
+    rt: &R,
+    alloc: Global,
+    line: &str,
+    shelf: &mut F,
+    tray: &mut T,
+    out: &mut O,
+) -> End {
+    match words_of(alloc, line) {
+        Ok(words) => run(rt, alloc, words.as_slice(), shelf, tray, out, &Open),
         Err(_) => End::NoMemory,
     }
 }
@@ -86,16 +60,19 @@ struct Ran {
 
 impl Ran {
     fn picture(&self) -> &[u8] {
-        bytes_of(self.tray.files(), "sq.ppm")
+        self.tray.file("sq.ppm").unwrap_or(b"-")
     }
 }
 
 // A run with a layer under this name, and `old` under that of the picture.
-fn run_surely(alloc: Global, line: &str, name: &str, layer: &[u8]) -> Result<Ran, AllocError> {
-    let mut shelf = SureShelf::new(alloc, files(alloc, name, layer)?);
-    let mut tray = SureTray::new(alloc, files(alloc, "sq.ppm", b"old")?);
+fn run_of(alloc: Global, line: &str, name: &str, layer: &[u8]) -> Result<Ran, AllocError> {
+    let mut shelf = SureShelf::new(alloc, one_file(alloc, name, layer)?);
+    let mut tray = SureTray::new(alloc, one_file(alloc, "sq.ppm", b"old")?);
     let mut out = SureSink::new(Vec::new(alloc));
-    let end = play(alloc, line, &mut shelf, &mut tray, &mut out);
+    let end = match words_of(alloc, line) {
+        Ok(words) => run_surely(alloc, words.as_slice(), &mut shelf, &mut tray, &mut out),
+        Err(_) => End::NoMemory,
+    };
     Ok(Ran {
         end,
         shelf,
@@ -104,19 +81,27 @@ fn run_surely(alloc: Global, line: &str, name: &str, layer: &[u8]) -> Result<Ran
     })
 }
 
-// The same call with a handle and a gate, at these types.
-fn play_with<R: Threads + Wait + Sync, F: Shelf, T: Tray + Send, O: Sink>(
-    rt: &R,
-    alloc: Global,
-    line: &str,
-    shelf: &mut F,
-    tray: &mut T,
-    out: &mut O,
-) -> End {
-    match words(alloc, line) {
-        Ok(words) => run(rt, alloc, words.as_slice(), shelf, tray, out, &Open),
-        Err(_) => End::NoMemory,
+#[test]
+fn ends_have_their_texts_and_statuses(rt: HostRuntime) -> Result<(), Fail> {
+    let alloc = rt.alloc();
+    let data = DataError::Text(TextError::Uneven(7));
+    let rows = [
+        (End::Done, 0, ""),
+        (End::NoMemory, 1, "out of memory"),
+        (End::Usage, 2, "usage"),
+        (End::BadData(3, data), 4, "bad data in layer 3"),
+        (End::ReadFault(Which::Layer(0)), 6, "read fault"),
+        (End::WriteFault(Which::Text), 7, "write fault"),
+        (End::Missing(Which::Layer(0)), 8, "file missing"),
+    ];
+    for (end, status, text) in rows {
+        assert_eq!(rt; end.status(), status, "{text}");
+        let printed = format!(in alloc; "{end}")?;
+        assert_eq!(rt; printed.as_str(), text);
     }
+    let printed = format!(in alloc; "{data}")?;
+    assert_eq!(rt; printed.as_str(), "another number of fields in record 7");
+    Ok(())
 }
 
 #[test]
@@ -167,11 +152,11 @@ fn polygons_are_painted_at_their_centres(rt: HostRuntime) -> Result<(), Fail> {
         ),
     ];
     for (text, picture) in rows {
-        let ran = run_surely(alloc, FOUR, "sq.csv", text.as_bytes())?;
-        assert_eq!(rt; ran.end, End::Done, "{text}");
-        assert_eq!(rt; ran.out.bytes(), b"image 4 4\n".as_slice(), "{text}");
-        let want = pixmap(alloc, picture, "4 4")?;
-        assert_eq!(rt; ran.picture(), want.as_slice(), "{text}");
+        let found = run_of(alloc, FOUR, "sq.csv", text.as_bytes())?;
+        assert_eq!(rt; found.end, End::Done, "{text}");
+        assert_eq!(rt; found.out.bytes(), b"image 4 4\n".as_slice(), "{text}");
+        let want = pixmap(alloc, "4 4", picture, RED)?;
+        assert_eq!(rt; found.picture(), want.as_slice(), "{text}");
     }
     Ok(())
 }
@@ -193,10 +178,10 @@ fn bytes_that_spell_no_features_are_refused(rt: HostRuntime) -> Result<(), Fail>
         (b"id,\xff\n", TextError::NotUtf8(0)),
     ];
     for (bytes, error) in rows {
-        let ran = run_surely(alloc, FOUR, "sq.csv", bytes)?;
-        assert_eq!(rt; ran.end, End::BadData(0, DataError::Text(error)));
-        assert_eq!(rt; ran.picture(), b"old".as_slice(), "{}", ran.end);
-        assert_eq!(rt; ran.out.bytes(), b"".as_slice(), "{}", ran.end);
+        let found = run_of(alloc, FOUR, "sq.csv", bytes)?;
+        assert_eq!(rt; found.end, End::BadData(0, DataError::Text(error)));
+        assert_eq!(rt; found.picture(), b"old".as_slice(), "{}", found.end);
+        assert_eq!(rt; found.out.bytes(), b"".as_slice(), "{}", found.end);
     }
     Ok(())
 }
@@ -212,8 +197,8 @@ fn a_file_is_missing_only_where_it_is_absent(rt: HostRuntime) -> Result<(), Fail
         ("sq.csv", End::Done),
     ];
     for (name, want) in rows {
-        let ran = run_surely(alloc, FOUR, name, SQUARE.as_bytes())?;
-        assert_eq!(rt; ran.end, want, "{name}");
+        let found = run_of(alloc, FOUR, name, SQUARE.as_bytes())?;
+        assert_eq!(rt; found.end, want, "{name}");
     }
     Ok(())
 }
@@ -221,7 +206,7 @@ fn a_file_is_missing_only_where_it_is_absent(rt: HostRuntime) -> Result<(), Fail
 #[test]
 fn each_device_fails_in_turn(rt: HostRuntime) -> Result<(), Fail> {
     let alloc = rt.alloc();
-    let picture = pixmap(alloc, "..../.##./.##./....", "4 4")?;
+    let picture = pixmap(alloc, "4 4", "..../.##./.##./....", RED)?;
     let (whole, old) = (picture.as_slice(), b"old".as_slice());
     let (layer, output) = (Which::Layer(0), Which::Output(1));
     let text = End::WriteFault(Which::Text);
@@ -249,20 +234,24 @@ fn each_device_fails_in_turn(rt: HostRuntime) -> Result<(), Fail> {
     for (name, read, write, print, piece, room, end, kept, printed) in rows {
         let mut shelf = MemShelf::new(
             alloc,
-            files(alloc, name, SQUARE.as_bytes())?,
+            one_file(alloc, name, SQUARE.as_bytes())?,
             Vec::from_slice(alloc, &[read])?,
         );
         let mut tray = MemTray::new(
             alloc,
-            files(alloc, "sq.ppm", b"old")?,
+            one_file(alloc, "sq.ppm", b"old")?,
             Vec::from_slice(alloc, &[write])?,
         );
         let mut out = MemSink::new(Vec::new(alloc), Vec::from_slice(alloc, &[print])?).with_limits(
             piece, room,
         );
-        let found = play_with(&rt, alloc, FOUR, &mut shelf, &mut tray, &mut out);
-        assert_eq!(rt; found, end, "{name} {read} {write} {print} {piece} {room}");
-        assert_eq!(rt; bytes_of(tray.files(), "sq.ppm"), kept, "{end}");
+        let end_found = play_with(&rt, alloc, FOUR, &mut shelf, &mut tray, &mut out);
+        assert_eq!(rt;
+            end_found,
+            end,
+            "{name} {read} {write} {print} {piece} {room}"
+        );
+        assert_eq!(rt; tray.file("sq.ppm"), Some(kept), "{end}");
         assert_eq!(rt; out.bytes(), printed.as_bytes(), "{end}");
         assert_eq!(rt; shelf.asked().len(), 1, "{end}");
     }
@@ -298,9 +287,9 @@ fn words_that_are_no_form_are_usage(rt: HostRuntime) -> Result<(), Fail> {
         "quick sq.csv sq.ppm 4 4 0 0 4 4 +f0000",
     ];
     for line in rows {
-        let ran = run_surely(alloc, line, "sq.csv", SQUARE.as_bytes())?;
-        assert_eq!(rt; ran.end, End::Usage, "{line}");
-        assert_eq!(rt; ran.shelf.asked().len(), 0, "{line}");
+        let found = run_of(alloc, line, "sq.csv", SQUARE.as_bytes())?;
+        assert_eq!(rt; found.end, End::Usage, "{line}");
+        assert_eq!(rt; found.shelf.asked().len(), 0, "{line}");
     }
     Ok(())
 }
@@ -349,10 +338,123 @@ fn forms_of_words_give_their_view_and_fill(rt: HostRuntime) -> Result<(), Fail> 
         ),
     ];
     for (line, size, rows) in rows {
-        let ran = run_surely(alloc, line, "sq.csv", SQUARE.as_bytes())?;
-        assert_eq!(rt; ran.end, End::Done, "{line}");
-        let want = pixmap(alloc, rows, size)?;
-        assert_eq!(rt; ran.picture(), want.as_slice(), "{line}");
+        let found = run_of(alloc, line, "sq.csv", SQUARE.as_bytes())?;
+        assert_eq!(rt; found.end, End::Done, "{line}");
+        let want = pixmap(alloc, size, rows, RED)?;
+        assert_eq!(rt; found.picture(), want.as_slice(), "{line}");
+    }
+    Ok(())
+}
+
+// An empty name is asked of the devices as any other.
+#[test]
+fn an_empty_name_is_a_name(rt: HostRuntime) -> Result<(), Fail> {
+    let alloc = rt.alloc();
+    let rows = [
+        ("quick||sq.ppm|4|4|0|0|4|4|ff0000", "", End::Done),
+        (
+            "quick||sq.ppm|4|4|0|0|4|4|ff0000",
+            "sq.csv",
+            End::Missing(Which::Layer(0)),
+        ),
+        ("quick|sq.csv||4|4|0|0|4|4|ff0000", "sq.csv", End::Done),
+    ];
+    for (line, name, want) in rows {
+        let found = run_of(alloc, line, name, SQUARE.as_bytes())?;
+        assert_eq!(rt; found.end, want, "{line}");
+        assert_eq!(rt; found.shelf.asked().len(), 1, "{line}");
+        assert_eq!(rt;
+            found.tray.file("").is_some(),
+            line.contains("||4|"),
+            "{line}"
+        );
+    }
+    Ok(())
+}
+
+// A shelf that has one byte more than is asked for under each name.
+#[derive(Drop)]
+struct Endless;
+
+impl Shelf for Endless {
+    ghost use Rattle.std.specs.Prelude.{None, [], false};
+
+    ghost tells = { λ _. false };
+
+    ghost file_at = { λ _ _. None };
+
+    ghost asked = { λ _. [] };
+
+    ghost faults = { λ _. 0 };
+
+    ghost misses = { λ _. 0 };
+
+    fn read(&mut self, _name: &str, max: u64, into: &mut Vec<u8>) -> ReadEnd {
+        into.clear();
+        match into.resize(max as usize, b' ') {
+            Ok(()) if into.push(b' ').is_ok() => ReadEnd::Found,
+            _ => {
+                into.clear();
+                ReadEnd::NoMemory
+            }
+        }
+    }
+}
+
+#[test]
+fn a_file_past_the_limit_is_bad_data(rt: HostRuntime) -> Result<(), Fail> {
+    let alloc = rt.alloc();
+    let mut tray = SureTray::new(alloc, one_file(alloc, "sq.ppm", b"old")?);
+    let mut out = SureSink::new(Vec::new(alloc));
+    let end = play(alloc, FOUR, &mut Endless, &mut tray, &mut out);
+    assert_eq!(rt; end, End::BadData(0, DataError::TooLong));
+    assert_eq!(rt; tray.file("sq.ppm"), Some(b"old".as_slice()));
+    Ok(())
+}
+
+// 1,000 records: the first has a polygon over the left half and an attribute of 100,000 bytes, the second
+// a geometry of 100,000 bytes without an area, and the others a point.
+fn large_layer(alloc: Global) -> Result<Vec<u8>, AllocError> {
+    let mut bytes = Vec::from_slice(
+        alloc,
+        b"wkt,name\n\"POLYGON((0 0,256 0,256 512,0 512,0 0))\",",
+    )?;
+    for _ in 0..100_000 {
+        bytes.push(b'x')?;
+    }
+    bytes.extend_from_slice(b"\n\"MULTIPOINT(300 0")?;
+    for _ in 0..25_000 {
+        bytes.extend_from_slice(b",7 7")?;
+    }
+    bytes.extend_from_slice(b")\",second\n")?;
+    for _ in 0..998 {
+        bytes.extend_from_slice(b"POINT(300 1),other\n")?;
+    }
+    Ok(bytes)
+}
+
+// A pixmap whose left half is red, and its right half white.
+fn half_red(alloc: Global, size: &str, w: u32, h: u32) -> Result<Vec<u8>, AllocError> {
+    let mut bytes = pixmap(alloc, size, "", RED)?;
+    for _ in 0..h {
+        for i in 0..w {
+            let rest = if i < w / 2 { 0 } else { 255 };
+            bytes.extend_from_slice(&[255, rest, rest])?;
+        }
+    }
+    Ok(bytes)
+}
+
+#[test]
+fn a_large_map_is_painted(rt: HostRuntime) -> Result<(), Fail> {
+    let alloc = rt.alloc();
+    let layer = large_layer(alloc)?;
+    for (size, w, h, top) in [("4096 1", 4096, 1, "0.125"), ("512 512", 512, 512, "512")] {
+        let line = format!(in alloc; "quick sq.csv sq.ppm {size} 0 0 512 {top} ff0000")?;
+        let found = run_of(alloc, line.as_str(), "sq.csv", layer.as_slice())?;
+        assert_eq!(rt; found.end, End::Done, "{size}");
+        let want = half_red(alloc, size, w, h)?;
+        assert!(rt; found.picture() == want.as_slice(), "{size}");
     }
     Ok(())
 }

@@ -1,107 +1,51 @@
 //! The words of a command, read by hand.
 
-ghost use Rattle.std.specs.Prelude.{◌≡◌, ℕ, ◌≤◌, ◌↔◌, ◌∷◌, [], IfSome, IsSomeAnd, IfNone, IsTrue, length, ◌≢◌, codes, ℤ};
+ghost use Rattle.std.specs.Prelude.{◌≡◌, ℕ, ◌≤◌, ◌↔◌, ◌∷◌, [], IfSome, IsTrue, length, codes, ℤ};
 ghost use Rattle.std.specs.Option.{SomeIff};
 ghost use Rattle.std.specs.Str.Parse.{AllDigits, digits_value};
 ghost use Rattle.cv_model.specs.declared.colour.Rgb.{Rgb};
 ghost use Rattle.cv_model.specs.Positions.{Rectangle, IsCoordinate};
 ghost use Rattle.cv_model.specs.Views.{PixelGrid};
-ghost use Rattle.cv_top.specs.Words.{IsCount, IsColour, IsValueOf, IsExtentOf, IsViewOf, IsPlan, IsQuick, QuickOrder};
+ghost use Rattle.cv_top.specs.declared.orders.Order.{Order};
+ghost use Rattle.cv_top.specs.Parts.{QuickParts};
+ghost use Rattle.cv_top.specs.Words.{IsCount, IsColour, IsValueOf, IsExtentOf, IsViewOf, IsQuick, IsOrder};
 
+use crate::orders::{Order, QuickOrder};
 use cv_decimal::Fixed;
 use cv_geom::view_of;
 use cv_model::{Extent, Rgb, Text, View};
 
-/// What the words of `quick` ask for.
-#[derive(Clone, Copy, Debug)]
-pub struct QuickWords<'a> {
-    /// The name of the delimited text.
-    pub csv: &'a str,
-    /// The name of the picture.
-    pub out: &'a str,
-    /// The view of the extent at the size.
-    pub view: View,
-    /// The colour of the polygons.
-    pub fill: Rgb,
-}
-
-/// What the words ask for, if they are `quick` and its nine words: two names, a size in pixels, an extent in map
-/// units and six hexadecimal digits.
-pub fn quick_words(words: &[Text]) -> Option<QuickWords<'_>>
-    ensures found { IfSome result (λ q. IsQuick words.now
-        (record { csv = q.csv.now; out = q.out.now; view = q.view; fill = q.fill })) }
-    ensures only { (order : QuickOrder) → IsQuick words.now order → IsSomeAnd result (λ q.
-        record { csv = q.csv.now; out = q.out.now; view = q.view; fill = q.fill } ≡ order) }
+/// What the words ask for, if they are a command's form.
+pub fn order_of(words: &[Text]) -> Option<Order<'_>>
+    ensures found { IfSome result (λ order. IsOrder words.now order) }
+    ensures only { (order : Order) → IsOrder words.now order → result ≡ Some order }
 {
-    let ten = ten_words(words)?;
-    if !is_quick(ten.command) {
-        return None;
-    }
-    let plan = planned(&ten)?;
-    Some(QuickWords {
-        csv: ten.csv,
-        out: ten.out,
-        view: plan.view,
-        fill: plan.fill,
-    })
+    let quick = quick_order(words)?;
+    Some(Order::Quick(quick))
 }
 
-/// The ten words of `quick`, in their order.
-#[derive(Clone, Copy)]
-struct TenWords<'a> {
-    command: &'a str,
-    csv: &'a str,
-    out: &'a str,
-    w: &'a str,
-    h: &'a str,
-    xmin: &'a str,
-    ymin: &'a str,
-    xmax: &'a str,
-    ymax: &'a str,
-    fill: &'a str,
-}
-
-/// The words, if there are ten.
-fn ten_words(words: &[Text]) -> Option<TenWords<'_>>
-    ensures found { IfSome result (λ t. words.now ≡ t.command.now ∷ t.csv.now ∷ t.out.now ∷ t.w.now ∷ t.h.now
-        ∷ t.xmin.now ∷ t.ymin.now ∷ t.xmax.now ∷ t.ymax.now ∷ t.fill.now ∷ []) }
-    ensures only { IfNone result (length words.now ≢ 10) }
+/// What the words ask for, if they are `quick` and its nine words: two names, a size in pixels, an extent in
+/// map units and six hexadecimal digits.
+fn quick_order(words: &[Text]) -> Option<QuickOrder<'_>>
+    ensures found { IfSome result (λ order. IsQuick words.now order) }
+    ensures only { (order : QuickParts) → IsQuick words.now order → result ≡ Some order }
 {
     let [command, csv, out, w, h, xmin, ymin, xmax, ymax, fill] = words else {
         return None;
     };
-    Some(TenWords {
-        command: command.as_str(),
-        csv: csv.as_str(),
-        out: out.as_str(),
-        w: w.as_str(),
-        h: h.as_str(),
-        xmin: xmin.as_str(),
-        ymin: ymin.as_str(),
-        xmax: xmax.as_str(),
-        ymax: ymax.as_str(),
-        fill: fill.as_str(),
+    if !is_quick(command.as_str()) {
+        return None;
+    }
+    let extent = extent(xmin.as_str(), ymin.as_str(), xmax.as_str(), ymax.as_str())?;
+    let view = sized(w.as_str(), h.as_str(), extent)?;
+    let fill = colour(fill.as_str().as_bytes())?;
+    let (csv, out) = (csv.as_str(), out.as_str());
+    Some(QuickOrder {
+        csv,
+        out,
+        view,
+        fill,
     })
-}
-
-/// What is to be drawn: the pixels and the colour.
-#[derive(Clone, Copy)]
-struct Plan {
-    view: View,
-    fill: Rgb,
-}
-
-/// The view and the fill that the words give.
-fn planned(ten: &TenWords<'_>) -> Option<Plan>
-    ensures found { IfSome result (λ p. IsPlan ten.now.w.now ten.now.h.now ten.now.xmin.now ten.now.ymin.now
-        ten.now.xmax.now ten.now.ymax.now ten.now.fill.now p.view p.fill) }
-    ensures only { (view : PixelGrid) (fill : Rgb) → IsPlan ten.now.w.now ten.now.h.now ten.now.xmin.now ten.now.ymin.now
-        ten.now.xmax.now ten.now.ymax.now ten.now.fill.now view fill → result ≡ Some (record { view = view; fill = fill }) }
-{
-    let extent = extent(ten.xmin, ten.ymin, ten.xmax, ten.ymax)?;
-    let view = sized(ten.w, ten.h, extent)?;
-    let fill = colour(ten.fill.as_bytes())?;
-    Some(Plan { view, fill })
 }
 
 /// Whether a word is the command `quick`.

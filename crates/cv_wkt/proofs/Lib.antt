@@ -1,22 +1,22 @@
 -- what may still come behind each state, and that the machine reads just that
-pub mod Comings
+pub mod ComingLemmas
 -- what a tree adds is its geometry
-pub mod Values
+pub mod ValueLemmas
 -- one token: what comes with it, and what comes behind it
-pub mod OneToken
+pub mod TokenLemmas
 -- the machine reads the grammar
-pub mod ReadsGrammar
+pub mod GrammarLemmas
 -- a stack in a vector
-pub mod Stacks
+pub mod StackLemmas
 -- steps at some tokens
-pub mod Steps
+pub mod StepLemmas
 -- the way through the bytes
-pub mod Scans
+pub mod ScanLemmas
 -- what the tokens tell is what the state is
-pub mod Telling
+pub mod ToldLemmas
 -- the limits that are told are those that are met
-pub mod Limits
+pub mod LimitLemmas
 -- where the machine stops
-pub mod Refusing
+pub mod RefusalLemmas
 -- there is one answer, and the machine gives it
-pub mod Answering
+pub mod AnswerLemmas

@@ -8,22 +8,26 @@
 --     member   = EMPTY | point | "(" point ")"
 --
 -- The groups are: of POINT one point, of LINESTRING points (a path), of POLYGON rings, of MULTIPOINT members,
--- of MULTILINESTRING paths, of MULTIPOLYGON groups of rings, of GEOMETRYCOLLECTION geometries; a ring is a path.
+-- of MULTILINESTRING paths, of MULTIPOLYGON groups of rings, of GEOMETRYCOLLECTION geometries; a ring is a
+-- path.
 -- Source: the tagged text of OGC 06-103r4 without curves and surfaces, in this project's own profile.
 use Rattle.std.specs.Prelude.{◌≡◌, ℕ, ℤ, Bool, true, false, List, [], ◌∷◌, ◌++◌, map}
 use Rattle.cv_model.specs.Positions.{Position}
 use Rattle.cv_model.specs.Geometries.{GeometryLists}
-use Rattle.cv_decimal.specs.declared.fixed.Fixed.{Fixed}
-use Rattle.cv_decimal.specs.declared.fixed.Fixed.TheVariants.{Value}
+use Rattle.cv_number.specs.declared.fixed.Fixed.{Fixed}
+use Rattle.cv_number.specs.declared.fixed.Fixed.TheVariants.{Value}
 use Rattle.cv_wkt.specs.declared.kind.Word.{Word}
-use Rattle.cv_wkt.specs.declared.kind.Word.TheVariants.{Point, LineString, Polygon, MultiPoint, MultiLineString, MultiPolygon, Collection}
+use Rattle.cv_wkt.specs.declared.kind.Word.TheVariants.{Point, LineString, Polygon, MultiPoint}
+use Rattle.cv_wkt.specs.declared.kind.Word.TheVariants.{MultiLineString, MultiPolygon, Collection}
 use Rattle.cv_wkt.specs.declared.kind.Kind.{Kind}
-use Rattle.cv_wkt.specs.declared.kind.Kind.TheVariants.{Open, Close, Comma, Semicolon, Equals, Srid, Empty, Tag, Name, Number}
+use Rattle.cv_wkt.specs.declared.kind.Kind.TheVariants.{Open, Close, Comma, Semicolon, Equals, Srid, Empty}
+use Rattle.cv_wkt.specs.declared.kind.Kind.TheVariants.{Tag, Name, Number}
 use Rattle.cv_wkt.specs.declared.place.Frame.{Frame}
-use Rattle.cv_wkt.specs.declared.place.Frame.TheVariants.{OnePoint, OneMember, LinePoints, RingPoints, Members, Lines, Rings, Polygons, Geometries}
+use Rattle.cv_wkt.specs.declared.place.Frame.TheVariants.{OnePoint, OneMember, LinePoints, RingPoints}
+use Rattle.cv_wkt.specs.declared.place.Frame.TheVariants.{Members, Lines, Rings, Polygons, Geometries}
 use Rattle.cv_wkt.specs.declared.place.Sort.{Sort}
 use Rattle.cv_wkt.specs.declared.place.Sort.TheVariants.{Ordinates, Member, Group, Geometry}
-use Rattle.cv_wkt.specs.Kinds.{kind_of}
+use Rattle.cv_wkt.specs.Kind.{kind_of}
 
 -- ---- the lists
 
@@ -72,6 +76,7 @@ pub record Ordinate : Type 0 where
   pub value : Fixed
   pub digits : Bool
 
+-- what stands behind x and y: nothing, one ordinate, or two
 pub data Further : Type 0 where
   NoneFurther : Further
   OneFurther : (z : Ordinate) → Further
@@ -83,6 +88,7 @@ pub data TagForm : Type 0 where
   Joined : TagForm
   Apart : TagForm
 
+-- the parts of a text, one for each way in which a part is written
 pub data Tree : Sort → Many → Type 0 where
   PointOf : (x y : Coordinate) (further : Further) → Tree Ordinates One
   EmptyOf : (f : Frame) → Tree (Group f) One
@@ -96,22 +102,27 @@ pub data Tree : Sort → Many → Type 0 where
 
 -- ---- their spelling
 
+-- an x or y
 abbrev pub coordinate : Coordinate → Kind
 coordinate c = Number (Value c.value) c.digits
 
+-- a further ordinate
 abbrev pub ordinate : Ordinate → Kind
 ordinate o = Number o.value o.digits
 
+-- those behind x and y
 abbrev pub further : Further → List Kind
 further NoneFurther = []
 further (OneFurther z) = ordinate z ∷ []
 further (TwoFurther z m) = ordinate z ∷ ordinate m ∷ []
 
+-- a word and its tag
 abbrev pub tagged : Word → TagForm → List Kind
 tagged word NoTag = Name word false ∷ []
 tagged word Joined = Name word true ∷ []
 tagged word Apart = Name word false ∷ Tag ∷ []
 
+-- a part
 abbrev pub spelled : {s : Sort} {m : Many} → Tree s m → List Kind
 spelled (PointOf x y more) = coordinate x ∷ coordinate y ∷ further more
 spelled (EmptyOf f) = Empty ∷ []
@@ -128,18 +139,24 @@ pub data Prefix : Type 0 where
   NoPrefix : Prefix
   SridOf : (digits : Fixed) → Prefix
 
+-- and how it is spelled
 abbrev pub prefix : Prefix → List Kind
 prefix NoPrefix = []
 prefix (SridOf n) = Srid ∷ Equals ∷ Number n true ∷ Semicolon ∷ []
 
 -- ---- their geometry
 
+-- no point, no line and no polygon
 abbrev pub none : GeometryLists
 none = record { points = []; lines = []; polygons = [] }
 
 -- what one has and then what the other has
 abbrev pub joined : GeometryLists → GeometryLists → GeometryLists
-joined g h = record { points = g.points ++ h.points; lines = g.lines ++ h.lines; polygons = g.polygons ++ h.polygons }
+joined g h = record {
+  points = g.points ++ h.points;
+  lines = g.lines ++ h.lines;
+  polygons = g.polygons ++ h.polygons;
+}
 
 -- the points of a path
 abbrev pub positions : {m : Many} → Tree Ordinates m → List Position
@@ -154,7 +171,8 @@ rings_of (ListOf _ points) = positions points ∷ []
 rings_of (Last _ ring) = rings_of ring
 rings_of (More _ ring rings) = rings_of ring ++ rings_of rings
 
--- the geometry of a tree: a path is a line, rings are a polygon, and any other list is what its items are, in reading order
+-- the geometry of a tree: a path is a line, rings are a polygon, and any other list is what its items are, in
+-- reading order
 abbrev pub value : {s : Sort} {m : Many} → Tree s m → GeometryLists
 value (PointOf x y more) = record none { points = (record { x = x.value; y = y.value }) ∷ [] }
 value (EmptyOf f) = none

@@ -1,9 +1,9 @@
 -- Well-known text: its tokens, its grammar, the machine that reads it, and where it is refused.
-pub mod Kinds
+pub mod Kind
 pub mod Grammar
-pub mod Machine
-pub mod Stacks
-pub mod Scanning
-pub mod Ranges
+pub mod Pieces
+pub mod Reader
+pub mod Stack
+pub mod Text
 pub mod Refusals
 pub mod Leftmost

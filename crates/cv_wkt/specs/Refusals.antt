@@ -1,10 +1,11 @@
 -- Why well-known text is refused, and what a reader answers.
-use Rattle.std.specs.Prelude.{ℕ, zero, suc, nat_le, Bool, true, false, if◌then◌else◌, List, [], ◌∷◌, map, length, count_by, Option, Some, None, Result, Ok, Err}
+use Rattle.std.specs.Prelude.{ℕ, zero, suc, nat_le, Bool, true, false, if◌then◌else◌, List, [], ◌∷◌, map}
+use Rattle.std.specs.Prelude.{length, count_by, Option, Some, None, Result, Ok, Err}
 use Rattle.cv_model.specs.Geometries.{GeometryLists}
 use Rattle.cv_model.specs.declared.geometry.WktError.{WktError}
 use Rattle.cv_reading.specs.Tokens.{Token}
 use Rattle.cv_reading.specs.Watches.{Watch, Stop, StopAt, watched}
-use Rattle.cv_decimal.specs.declared.fixed.Fixed.TheVariants.{Value, High, Low}
+use Rattle.cv_number.specs.declared.fixed.Fixed.TheVariants.{Value, High, Low}
 use Rattle.cv_wkt.specs.declared.kind.Word.TheVariants.{Collection}
 use Rattle.cv_wkt.specs.declared.kind.Kind.{Kind}
 use Rattle.cv_wkt.specs.declared.kind.Kind.TheVariants.{Name, Curve, Number}
@@ -15,8 +16,8 @@ use Rattle.cv_wkt.specs.declared.place.Now.{Now}
 use Rattle.cv_wkt.specs.declared.place.Now.TheVariants.{Start, Begin, BehindX}
 use Rattle.cv_wkt.specs.declared.place.Cause.{Cause}
 use Rattle.cv_wkt.specs.declared.place.Cause.TheVariants.{Unexpected, Curved, Beyond, Deep, Full}
-use Rattle.cv_wkt.specs.Kinds.{kind_of, tokens_of}
-use Rattle.cv_wkt.specs.Machine.{State, start, stepped, wkt_reader}
+use Rattle.cv_wkt.specs.Kind.{kind_of, tokens_of}
+use Rattle.cv_wkt.specs.Reader.{State, start, stepped, wkt_reader}
 
 -- a token where a geometry's word is expected
 abbrev pub not_a_name : Kind → Cause
@@ -38,6 +39,7 @@ cause_of (Begin Member) k = not_a_coordinate k
 cause_of BehindX k = not_a_coordinate k
 cause_of _ k = Unexpected
 
+-- is a list a collection's
 abbrev pub is_collection : Frame → Bool
 is_collection Geometries = true
 is_collection _ = false
@@ -46,21 +48,25 @@ is_collection _ = false
 abbrev pub collections : List Frame → ℕ
 collections frames = count_by is_collection frames
 
+-- the word of a collection within eight
 abbrev pub if_deep : List Frame → Kind → Option Cause
 if_deep frames (Name Collection joined) = if nat_le 8 (collections frames) then Some Deep else None
 if_deep frames _ = None
 
+-- the y of a vertex behind 1,000,000
 abbrev pub if_full : ℕ → Kind → Option Cause
 if_full vertices (Number (Value y) d) = if nat_le 1000000 vertices then Some Full else None
 if_full vertices _ = None
 
--- a limit that a token which can stand meets: the word of a collection within eight, the y of a vertex behind 1,000,000
+-- a limit that a token which can stand meets: the word of a collection within eight, the y of a vertex behind
+-- 1,000,000
 abbrev pub limit_of : Now → List Frame → ℕ → Kind → Option Cause
 limit_of Start frames vertices k = if_deep frames k
 limit_of (Begin Geometry) frames vertices k = if_deep frames k
 limit_of BehindX frames vertices k = if_full vertices k
 limit_of _ frames vertices k = None
 
+-- why the machine refuses, and at which limits
 abbrev pub wkt_watch : Watch State (List ℕ) Cause
 wkt_watch = record {
   cause = λ s bytes. cause_of s.now (kind_of bytes);
@@ -101,6 +107,7 @@ geometry_of text = answer (length text) (tokens_of text) start
 
 -- ---- one token, as the code takes it
 
+-- the state behind a token, but where it can't stand or meets a limit
 abbrev pub taken_by : Cause → Option Cause → Option State → ℕ → Result State WktError
 taken_by cause limit None at = Err (refusal cause at)
 taken_by cause (Some c) (Some t) at = Err (refusal c at)

@@ -1,11 +1,9 @@
 //! The kinds of tokens.
 
-ghost use Rattle.std.specs.Prelude.{◌≡◌, IfSome};
-ghost use Rattle.cv_reading.specs.Tokens.{ByteKind};
-ghost use Rattle.cv_wkt.specs.Kinds.{byte_kind, is_space, is_sign, is_tag, tag_in, named, has_name, is_curve, geometry_kind, keyword_kind, word_kind, kind_of, is_line_word, is_area_word, is_mesh_word};
+ghost use Rattle.std.specs.Prelude.{◌≡◌, map};
+ghost use Rattle.cv_wkt.specs.Kind.{is_sign, is_tag, tag_in, named, found_in, geometry_kind, keyword_kind, word_kind, kind_of, IsKindInRange};
 ghost use Rattle.std.specs.Char.{is_ascii_digit};
 ghost use Rattle.std.specs.List.{list_all};
-ghost use Rattle.cv_wkt.specs.Ranges.{IsKindInRange};
 
 use cv_decimal::Fixed;
 
@@ -20,6 +18,31 @@ pub enum Word {
     MultiPolygon,
     Collection,
 }
+
+/// The words of geometries, with what they name.
+const GEOMETRIES: [(&[u8], Word); 7] = [
+    (b"POINT", Word::Point),
+    (b"LINESTRING", Word::LineString),
+    (b"POLYGON", Word::Polygon),
+    (b"MULTIPOINT", Word::MultiPoint),
+    (b"MULTILINESTRING", Word::MultiLineString),
+    (b"MULTIPOLYGON", Word::MultiPolygon),
+    (b"GEOMETRYCOLLECTION", Word::Collection),
+];
+
+/// The words of curves and surfaces, which are refused.
+const REFUSED: [(&[u8], ()); 10] = [
+    (b"CIRCULARSTRING", ()),
+    (b"COMPOUNDCURVE", ()),
+    (b"CURVEPOLYGON", ()),
+    (b"MULTICURVE", ()),
+    (b"MULTISURFACE", ()),
+    (b"CURVE", ()),
+    (b"SURFACE", ()),
+    (b"POLYHEDRALSURFACE", ()),
+    (b"TIN", ()),
+    (b"TRIANGLE", ()),
+];
 
 /// What a token is.
 #[derive(Clone, Copy)]
@@ -48,13 +71,6 @@ pub enum Kind {
     Number(Fixed, bool),
     /// A token that stands nowhere.
     Other,
-}
-
-/// Is a byte one that stands between tokens.
-pub fn is_space(byte: u8) -> bool
-    ensures { result ≡ is_space byte }
-{
-    byte == b' ' || byte == b'\t' || byte == b'\r' || byte == b'\n'
 }
 
 /// Is a byte a token by itself.
@@ -96,79 +112,37 @@ fn named(name: &[u8], bytes: &[u8]) -> Option<bool>
     tag_in(parts.1)
 }
 
-fn has_name(name: &[u8], bytes: &[u8]) -> bool
-    ensures { result ≡ has_name name.now bytes.now }
+/// What the first word of a table stands for that a token is, and whether a tag is joined to it.
+fn found_in<T: Copy>(table: &[(&[u8], T)], bytes: &[u8]) -> Option<(T, bool)>
+    ensures { result ≡ found_in (map (λ entry. (entry.0.now, entry.1)) table.now) bytes.now }
 {
-    match named(name, bytes) {
-        Some(_) => true,
-        None => false,
+    for entry in table {
+        if let Some(joined) = named(entry.0, bytes) {
+            return Some((entry.1, joined));
+        }
     }
+    None
 }
 
-fn is_line_word(bytes: &[u8]) -> bool
-    ensures { result ≡ is_line_word bytes.now }
-{
-    has_name(b"CIRCULARSTRING", bytes)
-        || has_name(b"COMPOUNDCURVE", bytes)
-        || has_name(b"CURVE", bytes)
-        || has_name(b"MULTICURVE", bytes)
-}
-
-fn is_area_word(bytes: &[u8]) -> bool
-    ensures { result ≡ is_area_word bytes.now }
-{
-    has_name(b"CURVEPOLYGON", bytes)
-        || has_name(b"SURFACE", bytes)
-        || has_name(b"MULTISURFACE", bytes)
-}
-
-fn is_mesh_word(bytes: &[u8]) -> bool
-    ensures { result ≡ is_mesh_word bytes.now }
-{
-    has_name(b"POLYHEDRALSURFACE", bytes) || has_name(b"TIN", bytes) || has_name(b"TRIANGLE", bytes)
-}
-
-fn is_curve(bytes: &[u8]) -> bool
-    ensures { result ≡ is_curve bytes.now }
-{
-    is_line_word(bytes) || is_area_word(bytes) || is_mesh_word(bytes)
-}
-
-#[tactic(auto, unfolding(crate::specs::Kinds::geometry_kind))]
+/// The kind of a geometry's word, or of a word that is refused. A call of its own, since within the loop over
+/// all tokens the search would take registers from the numbers.
+#[inline(never)]
+#[tactic(auto, unfolding(crate::specs::Kind::geometry_kind))]
 fn geometry_kind(bytes: &[u8]) -> Kind
     ensures kind { result ≡ geometry_kind bytes.now }
     ensures range { IsKindInRange result }
 {
-    if let Some(joined) = named(b"POINT", bytes) {
-        return Kind::Name(Word::Point, joined);
+    if let Some(found) = found_in(&GEOMETRIES, bytes) {
+        return Kind::Name(found.0, found.1);
     }
-    if let Some(joined) = named(b"LINESTRING", bytes) {
-        return Kind::Name(Word::LineString, joined);
-    }
-    if let Some(joined) = named(b"POLYGON", bytes) {
-        return Kind::Name(Word::Polygon, joined);
-    }
-    if let Some(joined) = named(b"MULTIPOINT", bytes) {
-        return Kind::Name(Word::MultiPoint, joined);
-    }
-    if let Some(joined) = named(b"MULTILINESTRING", bytes) {
-        return Kind::Name(Word::MultiLineString, joined);
-    }
-    if let Some(joined) = named(b"MULTIPOLYGON", bytes) {
-        return Kind::Name(Word::MultiPolygon, joined);
-    }
-    if let Some(joined) = named(b"GEOMETRYCOLLECTION", bytes) {
-        return Kind::Name(Word::Collection, joined);
-    }
-    if is_curve(bytes) {
-        Kind::Curve
-    } else {
-        Kind::Other
+    match found_in(&REFUSED, bytes) {
+        Some(_) => Kind::Curve,
+        None => Kind::Other,
     }
 }
 
 /// The kind of a token that is neither a decimal nor a sign.
-#[tactic(auto, unfolding(crate::specs::Kinds::keyword_kind))]
+#[tactic(auto, unfolding(crate::specs::Kind::keyword_kind))]
 fn keyword_kind(bytes: &[u8]) -> Kind
     ensures kind { result ≡ keyword_kind bytes.now }
     ensures range { IsKindInRange result }
@@ -185,7 +159,7 @@ fn keyword_kind(bytes: &[u8]) -> Kind
 }
 
 /// The kind of a token that is no decimal.
-#[tactic(auto, unfolding(crate::specs::Kinds::word_kind))]
+#[tactic(auto, unfolding(crate::specs::Kind::word_kind))]
 fn word_kind(bytes: &[u8]) -> Kind
     ensures kind { result ≡ word_kind bytes.now }
     ensures range { IsKindInRange result }
@@ -212,7 +186,7 @@ fn is_digits(bytes: &[u8]) -> bool
 }
 
 /// The kind of a token, given by its bytes.
-#[tactic(auto, unfolding(crate::specs::Kinds::kind_of))]
+#[tactic(auto, unfolding(crate::specs::Kind::kind_of))]
 pub fn classify(bytes: &[u8]) -> Kind
     ensures kind { result ≡ kind_of bytes.now }
     ensures range { IsKindInRange result }

@@ -1,7 +1,7 @@
 //! What has been read of a geometry.
 
 ghost use Rattle.std.specs.Prelude.{◌≡◌, OnOk};
-ghost use Rattle.cv_wkt.specs.Machine.{nothing, added, closed, emptied, lists};
+ghost use Rattle.cv_wkt.specs.Pieces.{nothing, added, closed, emptied, lists};
 
 use crate::place::Frame;
 use cv_model::{Geometry, Line, NoMemory, Point, Polygon, Ring, Sequence};
@@ -20,11 +20,17 @@ pub struct Pieces {
 }
 
 impl Model for Pieces {
-    ghost use Rattle.cv_wkt.specs.Machine.{Gathered};
+    ghost use Rattle.cv_wkt.specs.Pieces.{PieceLists};
 
-    ghost Value = { Gathered };
+    ghost Value = { PieceLists };
 
-    ghost view = { λ p. record { points = p.points; lines = p.lines; polygons = p.polygons; rings = p.rings; path = p.path } };
+    ghost view = { λ p. record {
+      points = p.points;
+      lines = p.lines;
+      polygons = p.polygons;
+      rings = p.rings;
+      path = p.path;
+    } };
 }
 
 impl Pieces {

@@ -2,7 +2,7 @@
 
 ghost use Rattle.std.specs.Prelude.{◌≡◌, if◌then◌else◌};
 ghost use Rattle.cv_wkt.specs.Grammar.{group_of, item, Many, One, Several, many};
-ghost use Rattle.cv_wkt.specs.Machine.{behind_word};
+ghost use Rattle.cv_wkt.specs.Reader.{behind_word};
 ghost use Rattle.cv_wkt.specs.Refusals.{refusal, cause_of, not_a_name, not_a_coordinate};
 
 use crate::kind::{Kind, Word};

@@ -2,8 +2,8 @@
 
 ghost use Rattle.std.specs.Prelude.{◌≡◌, ◌<◌, ◌≢◌, Bool, true, None, Ok, Err, OnOk, IfOk, IfErr};
 ghost use Rattle.cv_model.specs.Positions.{IsCoordinate};
-ghost use Rattle.cv_wkt.specs.Machine.{State, start, IsState, Stepped, opened, left_out, with_x, with_y, behind_item, stepped};
-ghost use Rattle.cv_wkt.specs.Ranges.{IsKindInRange};
+ghost use Rattle.cv_wkt.specs.Reader.{State, start, IsState, Stepped, opened, left_out, with_x, with_y, behind_item, stepped};
+ghost use Rattle.cv_wkt.specs.Kind.{IsKindInRange};
 ghost use Rattle.cv_wkt.specs.Refusals.{limit_of, if_deep, if_full, taken, finished};
 
 use crate::kind::{Kind, Word};
@@ -15,7 +15,8 @@ use cv_model::{Geometry, NoMemory, Point, WktError};
 use std::alloc::Global;
 use std::marker::Model;
 
-/// What comes next, the open lists, an x that waits for its y, how many vertices there are, and what has been read.
+/// What comes next, the open lists, an x that waits for its y, how many vertices there are, and what has been
+/// read.
 #[derive(Drop)]
 pub struct Reader {
     next: Now,
@@ -26,13 +27,25 @@ pub struct Reader {
 }
 
 impl Model for Reader {
-    ghost use Rattle.cv_wkt.specs.Machine.{State, IsState};
+    ghost use Rattle.cv_wkt.specs.Reader.{State, IsState};
 
     ghost Value = { State };
 
-    ghost view = { λ r. record { now = r.next; frames = r.frames; x = r.x; vertices = r.vertices; parts = r.pieces } };
+    ghost view = { λ r. record {
+      now = r.next;
+      frames = r.frames;
+      x = r.x;
+      vertices = r.vertices;
+      parts = r.pieces;
+    } };
 
-    ghost invariant = { λ r. IsState (record { now = r.next; frames = r.frames; x = r.x; vertices = r.vertices; parts = r.pieces }) };
+    ghost invariant = { λ r. IsState (record {
+      now = r.next;
+      frames = r.frames;
+      x = r.x;
+      vertices = r.vertices;
+      parts = r.pieces;
+    }) };
 }
 
 impl Reader {
@@ -97,7 +110,7 @@ impl Reader {
     }
 
     /// A comma behind an item.
-    #[tactic(auto, using(crate::proofs::Steps::comma_is, crate::proofs::Steps::no_comma))]
+    #[tactic(auto, using(crate::proofs::StepLemmas::comma_is, crate::proofs::StepLemmas::no_comma))]
     fn separate(&mut self) -> bool
         ensures { Stepped result (behind_item self.old.frames Kind.Comma self.old) self.new }
     {
@@ -151,7 +164,8 @@ impl Reader {
 
     /// Where EMPTY or a list is expected.
     fn at_group(&mut self, alloc: Global, frame: Frame, kind: Kind) -> Result<bool, NoMemory>
-        ensures { IfOk result (λ b. Stepped b (stepped (Now.Begin (Sort.Group frame)) kind self.old) self.new) }
+        ensures { IfOk result (λ b.
+            Stepped b (stepped (Now.Begin (Sort.Group frame)) kind self.old) self.new) }
     {
         match kind {
             Kind::Empty => self.leave_out(alloc, frame)?,
@@ -201,7 +215,7 @@ impl Reader {
     }
 
     /// Where a y is expected.
-    #[tactic(auto, using(crate::proofs::Steps::is_room))]
+    #[tactic(auto, using(crate::proofs::StepLemmas::is_room))]
     fn at_y(&mut self, kind: Kind) -> Result<bool, NoMemory>
         requires range { IsKindInRange kind }
         requires few { limit_of Now.BehindX self.old.frames self.old.vertices kind ≡ None }
@@ -215,7 +229,7 @@ impl Reader {
     }
 
     /// Behind an item, with so many ordinates as may still come.
-    #[tactic(auto, using(crate::proofs::Steps::comma_behind, crate::proofs::Steps::close_behind, crate::proofs::Steps::none_behind))]
+    #[tactic(auto, using(crate::proofs::StepLemmas::item_steps))]
     fn behind_item(&mut self, alloc: Global, ordinates: u8, kind: Kind) -> Result<bool, NoMemory>
         ensures { IfOk result (λ b. Stepped b (stepped (Now.Behind ordinates) kind self.old) self.new) }
     {
@@ -319,7 +333,7 @@ impl Reader {
     }
 
     /// Takes a token, which stands at an offset. After an error the reader is of no more use.
-    #[tactic(auto, using(crate::proofs::Steps::limited, crate::proofs::Steps::made, crate::proofs::Steps::refused))]
+    #[tactic(auto, using(crate::proofs::StepLemmas::taken_steps))]
     pub fn take(&mut self, alloc: Global, kind: Kind, at: u64) -> Result<(), WktError>
         requires { IsKindInRange kind }
         ensures ok { OnOk result (taken self.old kind at ≡ Ok self.new) }
@@ -337,7 +351,7 @@ impl Reader {
     }
 
     /// The answer where the text ends.
-    #[tactic(auto, using(crate::proofs::Steps::finished_is, crate::proofs::Steps::open_is, crate::proofs::Steps::early_is))]
+    #[tactic(auto, using(crate::proofs::StepLemmas::end_steps))]
     pub fn finish(self, end: u64) -> Result<Geometry, WktError>
         ensures { result ≡ finished end self }
     {

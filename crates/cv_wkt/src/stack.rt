@@ -2,7 +2,7 @@
 
 ghost use Rattle.std.specs.Prelude.{◌≡◌, ◌∷◌, [], OnOk};
 ghost use Rattle.cv_wkt.specs.Refusals.{collections, is_collection};
-ghost use Rattle.cv_wkt.specs.Stacks.{first_of, Popped};
+ghost use Rattle.cv_wkt.specs.Stack.{first_of, Popped};
 
 use crate::place::Frame;
 use cv_model::NoMemory;
@@ -44,7 +44,7 @@ impl Stack {
     }
 
     /// The innermost list.
-    #[tactic(auto, using(crate::proofs::Stacks::reverse_top))]
+    #[tactic(auto, using(crate::proofs::StackLemmas::reverse_top))]
     pub fn top(&self) -> Option<Frame>
         ensures { result ≡ first_of self.now }
     {
@@ -52,7 +52,7 @@ impl Stack {
     }
 
     /// How many collections are open.
-    #[tactic(auto, using(crate::proofs::Stacks::count_reverse))]
+    #[tactic(auto, using(crate::proofs::StackLemmas::count_reverse))]
     pub fn collections(&self) -> u64
         ensures { result ≡ collections self.now }
     {
@@ -63,7 +63,7 @@ impl Stack {
     }
 
     /// Opens a list within the others.
-    #[tactic(auto, using(crate::proofs::Stacks::reverse_pushed))]
+    #[tactic(auto, using(crate::proofs::StackLemmas::reverse_pushed))]
     pub fn push(&mut self, frame: Frame) -> Result<(), NoMemory>
         ensures { OnOk result (self.new ≡ frame ∷ self.old) }
     {
@@ -72,7 +72,7 @@ impl Stack {
     }
 
     /// Closes the innermost list, if there is one, and answers which it was.
-    #[tactic(auto, using(crate::proofs::Stacks::reverse_popped))]
+    #[tactic(auto, using(crate::proofs::StackLemmas::reverse_popped))]
     pub fn pop(&mut self) -> Option<Frame>
         ensures { Popped result self.old self.new }
     {

@@ -3,13 +3,14 @@
 ghost use Rattle.std.specs.Prelude.{◌≡◌, ◌≢◌, ◌≤◌, length, take, drop, Ok, Err, IfOk, IfErr};
 ghost use Rattle.std.specs.List.{prefix_len};
 ghost use Rattle.cv_reading.specs.Tokens.{is_word};
-ghost use Rattle.cv_wkt.specs.Kinds.{byte_kind};
-ghost use Rattle.cv_wkt.specs.Scanning.{front_len};
+ghost use Rattle.cv_wkt.specs.Kind.{byte_kind};
+ghost use Rattle.cv_wkt.specs.Text.{front_len};
 ghost use Rattle.cv_wkt.specs.Refusals.{geometry_of};
 
-use crate::kind::{classify, is_sign, is_space};
+use crate::kind::{classify, is_sign};
 use crate::reader::Reader;
 use cv_model::{Geometry, WktError};
+use cv_reading::is_space;
 use std::alloc::Global;
 
 fn is_word_byte(byte: u8) -> bool
@@ -21,7 +22,7 @@ fn is_word_byte(byte: u8) -> bool
     !is_sign(byte)
 }
 
-#[tactic(auto, using(crate::proofs::Scans::word_within))]
+#[tactic(auto, using(crate::proofs::ScanLemmas::word_within))]
 fn word_len(text: &[u8]) -> usize
     ensures len { result ≡ prefix_len (λ b. is_word (byte_kind b)) text.now }
     ensures within { result ≤ length text.now }
@@ -76,10 +77,7 @@ pub fn scan(alloc: Global, text: &[u8]) -> Result<Geometry, WktError>
         if len == 0 {
             at += 1;
         } else {
-            match reader.take(alloc, classify(front(rest, len)), at as u64) {
-                Ok(()) => {}
-                Err(refusal) => return Err(refusal),
-            }
+            reader.take(alloc, classify(front(rest, len)), at as u64)?;
             at += len;
         }
     }

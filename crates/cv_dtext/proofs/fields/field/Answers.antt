@@ -5,7 +5,9 @@ use Rattle.csv.proofs.RecordFacts.{field-get, field-there}
 use Rattle.cv_dtext.proofs.fields.field.Goals as goal
 
 pub returns-in-Some : goal.returns-in-Some
-returns-in-Some c = sym (field-get (fields_of c.args.row.now) c.args.place c.in-Some.field.now (sym c.in-Some.ensures.value))
+returns-in-Some c = sym (field-get (fields_of c.args.texts.now) c.args.place c.in-Some.field.now
+    (sym c.in-Some.ensures.value))
 
 pub returns-in-None : goal.returns-in-None
-returns-in-None c = absurd (field-there (fields_of c.args.row.now) c.args.place c.requires (sym c.in-None.ensures.value))
+returns-in-None c = absurd
+    (field-there (fields_of c.args.texts.now) c.args.place c.requires (sym c.in-None.ensures.value))

@@ -1,6 +1,6 @@
 use Rattle.std.proofs.Common.{w64, FitsSigned, arith, rules}
 use Rattle.std.proofs.lemmas.Int.{ints, to_z-of_z}
-use Rattle.cv_geom.proofs.Places.{same_place}
+use Rattle.cv_geom.proofs.PositionLemmas.{same_place}
 use Rattle.cv_geom.proofs.centres.centre.Goals as goal
 
 pub invariant_of-result : goal.invariant_of-result

@@ -1,6 +1,6 @@
 use Rattle.std.proofs.Common.{pos, ◌^◌, arith, rules}
 use Rattle.std.proofs.lemmas.Int.{ints}
-use Rattle.cv_geom.proofs.Products.{abs-mul-le}
+use Rattle.cv_geom.proofs.ProductLemmas.{abs-mul-le}
 use Rattle.cv_geom.proofs.lengths.half_span.Goals as goal
 
 pub returns-clause-value : goal.returns-clause-value

@@ -1,5 +1,5 @@
 use Rattle.std.proofs.Common.{sym, arith}
-use Rattle.cv_geom.proofs.Crossings.{edges-last}
+use Rattle.cv_geom.proofs.CrossingLemmas.{edges-last}
 use Rattle.cv_geom.proofs.parity.is_crossed_oddly.Goals as goal
 
 pub loop-point-init : goal.loop-point-init

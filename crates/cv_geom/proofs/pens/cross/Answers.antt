@@ -1,6 +1,6 @@
 use Rattle.std.proofs.Common.{◌^◌, arith}
 use Rattle.std.proofs.lemmas.Int.{ints, to_z-of_z}
-use Rattle.cv_geom.proofs.Products.{abs-mul-le}
+use Rattle.cv_geom.proofs.ProductLemmas.{abs-mul-le}
 use Rattle.cv_geom.proofs.pens.cross.Goals as goal
 
 pub overflow_sub-result : goal.overflow_sub-result

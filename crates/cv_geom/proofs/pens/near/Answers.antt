@@ -2,7 +2,7 @@ use Rattle.std.proofs.Common.{sym, w64}
 use Rattle.std.proofs.lemmas.Int.{to_z-of_z}
 use Rattle.cv_model.specs.Positions.{doubled}
 use Rattle.cv_model.specs.Pens.{meets, corners, straddles}
-use Rattle.cv_geom.proofs.Bools.{through, stopped}
+use Rattle.cv_geom.proofs.BoolLemmas.{through, stopped}
 use Rattle.cv_geom.proofs.pens.near.Goals as goal
 
 pub returns-then-overlaps_both_ways : goal.returns-then-overlaps_both_ways

@@ -1,6 +1,6 @@
 use Rattle.std.proofs.Common.{sym, arith}
 use Rattle.std.proofs.lemmas.Int.{ints}
-use Rattle.cv_geom.proofs.Causes.{view_in_range}
+use Rattle.cv_geom.proofs.CauseLemmas.{view_in_range}
 use Rattle.cv_geom.proofs.range.kept.Goals as goal
 
 pub made-requires : goal.made-requires

@@ -1,6 +1,6 @@
 use Rattle.std.proofs.Common.{rules}
 use Rattle.cv_geom.specs.Views.{moved}
-use Rattle.cv_geom.proofs.Causes.{kept_cause}
+use Rattle.cv_geom.proofs.CauseLemmas.{kept_cause}
 use Rattle.cv_geom.proofs.views.pan.Goals as goal
 
 pub returns-clause-answer : goal.returns-clause-answer

@@ -1,5 +1,5 @@
 use Rattle.std.proofs.Common.{rules}
-use Rattle.cv_geom.proofs.Causes.{size_cause, empty_cause, range_cause}
+use Rattle.cv_geom.proofs.CauseLemmas.{size_cause, empty_cause, range_cause}
 use Rattle.cv_geom.proofs.views.view_of.Goals as goal
 
 pub returns-clause-answer : goal.returns-clause-answer

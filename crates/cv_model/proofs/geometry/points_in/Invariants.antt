@@ -5,4 +5,5 @@ use Rattle.cv_model.proofs.geometry.points_in.Given as goal
 
 abbrev pub invariant-loop-line : goal.invariant-loop-line
 invariant-loop-line l =
-    (counted (l.points + sum_by length (drop l.line-index l.lines)) ≡ counted (sum_by length l.lines)) × (l.points ≤ 18446744073709551615)
+    (counted (l.points + sum_by length (drop l.line-index l.lines)) ≡ counted (sum_by length l.lines)) ×
+    (l.points ≤ 18446744073709551615)

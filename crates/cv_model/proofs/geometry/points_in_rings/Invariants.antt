@@ -5,5 +5,6 @@ use Rattle.cv_model.proofs.geometry.points_in_rings.Given as goal
 
 abbrev pub invariant-loop-polygon : goal.invariant-loop-polygon
 invariant-loop-polygon l =
-    (counted (l.points + sum_by points_of (drop l.polygon-index l.polygons)) ≡ counted (sum_by points_of l.polygons))
+    (counted (l.points + sum_by points_of (drop l.polygon-index l.polygons)) ≡ counted (sum_by points_of
+    l.polygons))
     × (l.points ≤ 18446744073709551615)

@@ -1,5 +1,5 @@
 use Rattle.std.proofs.Common.{sym, arith}
-use Rattle.cv_geom.proofs.Crossings.{edges-last}
+use Rattle.cv_geom.proofs.CrossingLemmas.{edges-last}
 use Rattle.cv_paint.proofs.hits.hits_ring.Goals as goal
 
 pub returns-in-Some : goal.returns-in-Some

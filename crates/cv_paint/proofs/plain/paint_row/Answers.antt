@@ -1,6 +1,5 @@
 use Rattle.std.proofs.Common.{◌++◌, ◌∷◌, [], ap, sym, ◌∙◌, append_assoc}
-use Rattle.cv_model.specs.Layers.{features_project}
-use Rattle.cv_model.specs.Pictures.{colour_at}
+use Rattle.cv_paint.specs.Plain.{features_project, colour_at}
 use Rattle.cv_model.specs.Rasters.{row_of}
 use Rattle.cv_model.proofs.Rows.{row_more}
 use Rattle.cv_paint.proofs.plain.paint_row.Goals as goal

@@ -1,7 +1,6 @@
 -- The pixels so far are the old ones and the row's first ones.
 use Rattle.std.proofs.Common.{◌≡◌, ◌++◌}
-use Rattle.cv_model.specs.Layers.{features_project}
-use Rattle.cv_model.specs.Pictures.{colour_at}
+use Rattle.cv_paint.specs.Plain.{features_project, colour_at}
 use Rattle.cv_model.specs.Rasters.{row_of}
 use Rattle.cv_paint.proofs.plain.paint_row.Given as goal
 

@@ -1,5 +1,5 @@
 -- The machine's answer and the grammar's.
-use Rattle.cv_wkt.proofs.Answering.{geometry_exactly, refusal_exactly}
+use Rattle.cv_wkt.proofs.AnswerLemmas.{geometry_exactly, refusal_exactly}
 use Rattle.cv_wkt.proofs.laws.answers_are_spelt.Goals as goal
 
 pub returns-clause-found : goal.returns-clause-found

@@ -1,5 +1,0 @@
-use Rattle.cv_geom.proofs.ViewLemmas.{centre_within}
-use Rattle.cv_geom.proofs.laws.centres_lie_within.Goals as goal
-
-pub returns : goal.returns
-returns c = centre_within

@@ -1,5 +1,0 @@
-use Rattle.cv_geom.proofs.ViewLemmas.{pan-pan}
-use Rattle.cv_geom.proofs.laws.pans_add.Goals as goal
-
-pub returns : goal.returns
-returns c = pan-pan

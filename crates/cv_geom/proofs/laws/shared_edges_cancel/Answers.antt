@@ -1,5 +1,0 @@
-use Rattle.cv_geom.proofs.TilingLemmas.{is_inside-united}
-use Rattle.cv_geom.proofs.laws.shared_edges_cancel.Goals as goal
-
-pub returns : goal.returns
-returns c = is_inside-united

@@ -1,5 +1,0 @@
-use Rattle.cv_geom.proofs.TilingLemmas.{squares_unite}
-use Rattle.cv_geom.proofs.laws.squares_unite.Goals as goal
-
-pub returns : goal.returns
-returns c = squares_unite

@@ -1,5 +1,0 @@
-use Rattle.cv_geom.proofs.ViewLemmas.{view_shows}
-use Rattle.cv_geom.proofs.laws.views_show_their_extent.Goals as goal
-
-pub returns : goal.returns
-returns c = view_shows

@@ -1,0 +1,4 @@
+-- What the proofs of this crate share.
+pub mod SideLemmas
+pub mod DotLemmas
+pub mod BetweenLemmas

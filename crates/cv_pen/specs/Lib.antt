@@ -1,0 +1,3 @@
+-- The definitions of what a pen and a marker hit in a row.
+pub mod Strokes
+pub mod Dots

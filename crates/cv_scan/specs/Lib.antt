@@ -1,0 +1,3 @@
+-- The definitions of reaches, and of the runs made of them.
+pub mod Reaches
+pub mod Runs

@@ -1,0 +1,18 @@
+//! The runs of a row's pixels inside a polygon.
+//!
+//! Contract: the spans of a row are exactly the maximal runs of columns whose centres are inside, in
+//! ascending order, and each call counts at most one step for an edge and a row.
+//! Definitions: `Reaches` and `Runs` here; `Spans` of `cv_geom`; `Polygons` and `Views` of `cv_model`. Law:
+//! `edges_cross_the_first`.
+//! `spans` and `spans_in` take memory; no handle is needed.
+#![tactic(auto)]
+
+mod reaches;
+mod row;
+mod runs;
+
+pub use reaches::{edges_cross_the_first, reach};
+pub use row::{spans, spans_in};
+
+#[cfg(test)]
+mod tests;

@@ -1,0 +1,11 @@
+-- What the words of each command ask for, as plain records.
+use Rattle.std.specs.Prelude.{ℕ, List}
+use Rattle.cv_model.specs.declared.colour.Rgb.{Rgb}
+use Rattle.cv_model.specs.Views.{PixelGrid}
+
+-- what the words of `quick` ask for: the file to read, the picture to write, its view, and the fill
+pub record QuickParts : Type 0 where
+  pub csv : List ℕ
+  pub out : List ℕ
+  pub view : PixelGrid
+  pub fill : Rgb

@@ -1,0 +1,32 @@
+//! What the words of a command ask for.
+
+use cv_model::{Rgb, View};
+use std::marker::Model;
+
+/// What the words of a command ask for.
+#[derive(Debug, Drop)]
+pub enum Order<'a> {
+    /// One delimited text is painted over white.
+    Quick(QuickOrder<'a>),
+}
+
+/// What the words of `quick` ask for.
+#[derive(Debug, Drop)]
+pub struct QuickOrder<'a> {
+    /// The name of the delimited text.
+    pub csv: &'a str,
+    /// The name of the picture.
+    pub out: &'a str,
+    /// The view of the extent at the size.
+    pub view: View,
+    /// The colour of the polygons.
+    pub fill: Rgb,
+}
+
+impl<'a> Model for QuickOrder<'a> {
+    ghost use Rattle.cv_top.specs.Parts.{QuickParts};
+
+    ghost Value = { QuickParts };
+
+    ghost view = { λ q. record { csv = q.csv.now; out = q.out.now; view = q.view; fill = q.fill } };
+}
