@@ -1,5 +1,6 @@
 -- Layers: their versions, and lists of them in form.
-use Rattle.std.proofs.Common.{◌≡◌, ℕ, ◌++◌, ◌∷◌, [], List, map, Bool, true, false, nat_eq, refl, sym, ap, ◌∙◌, subst, arith}
+use Rattle.std.proofs.Common.{◌≡◌, ℕ, ◌++◌, ◌∷◌, [], List, map, Bool, true, false, nat_eq, refl, sym, ap}
+use Rattle.std.proofs.Common.{◌∙◌, subst, arith}
 use Rattle.std.specs.Prelude.{All}
 use Rattle.std.specs.Cmp.{nat_eq_equiv}
 use Rattle.std.specs.List.{IsDistinct, list_any}
@@ -18,10 +19,12 @@ not_equal a b apart = grind (arith, eqb_tells)
 
 -- a layer in form with a new id, behind layers in form
 pub AreLayers-push : (before : List LayerFile) (layer : LayerFile) → AreLayers before → IsLayer layer
-    → list_any (λ (other : LayerFile). nat_eq layer.id other.id) before ≡ false → AreLayers (before ++ layer ∷ [])
+    → list_any (λ (other : LayerFile). nat_eq layer.id other.id) before ≡ false
+    → AreLayers (before ++ layer ∷ [])
 AreLayers-push before layer are is new =
     let id : LayerFile → ℕ = λ l. l.id in record {
       each = All-push IsLayer before layer are.each is;
       distinct = subst (IsDistinct nat_eq) (sym (map-append id before (layer ∷ [])))
-          (IsDistinct-push nat_eq_equiv (map id before) layer.id are.distinct (list_any_map (nat_eq layer.id) id before ∙ new));
+          (IsDistinct-push nat_eq_equiv (map id before) layer.id are.distinct (list_any_map
+          (nat_eq layer.id) id before ∙ new));
     }

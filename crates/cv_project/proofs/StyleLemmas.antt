@@ -1,5 +1,6 @@
 -- Stops that ascend.
-use Rattle.std.proofs.Common.{◌≡◌, ℕ, Bool, true, false, ◌&&◌, List, [], ◌∷◌, drop, ℤ, refl, sym, ap, ◌∙◌, arith}
+use Rattle.std.proofs.Common.{◌≡◌, ℕ, Bool, true, false, ◌&&◌, List, [], ◌∷◌, drop, ℤ, refl, sym, ap, ◌∙◌}
+use Rattle.std.proofs.Common.{arith}
 use Rattle.std.specs.Prelude.{◌<ℤ◌, ◌≤ℤ◌, int_lt}
 use Rattle.std.proofs.lemmas.Int.{ints}
 use Rattle.cv_model.specs.Ramps.{Ascends}
@@ -28,9 +29,11 @@ ascends-Ascends [] h = tt
 ascends-Ascends (stop ∷ rest) h = Ascends-from stop rest h
 
 -- a stop that isn't above the one before it decides
-pub ascends_from-stops : (v : ℤ) (stop : Stop) (rest : List Stop) → int_lt v stop.value ≡ false → ascends_from v (stop ∷ rest) ≡ false
+pub ascends_from-stops : (v : ℤ) (stop : Stop) (rest : List Stop) → int_lt v stop.value ≡ false
+    → ascends_from v (stop ∷ rest) ≡ false
 ascends_from-stops v stop rest low = rw low refl
 
 -- and behind one that is the others decide
-pub ascends_from-more : (v : ℤ) (stop : Stop) (rest : List Stop) → int_lt v stop.value ≡ true → ascends_from v (stop ∷ rest) ≡ ascends_from stop.value rest
+pub ascends_from-more : (v : ℤ) (stop : Stop) (rest : List Stop) → int_lt v stop.value ≡ true
+    → ascends_from v (stop ∷ rest) ≡ ascends_from stop.value rest
 ascends_from-more v stop rest high = rw high refl

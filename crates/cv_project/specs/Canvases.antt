@@ -1,5 +1,6 @@
 -- The table of canvases.
-use Rattle.std.specs.Prelude.{ℕ, Bool, true, ◌==◌, if◌then◌else◌, ℤ, pos, List, [], ◌∷◌, codes, Option, Some, None, is_ok, Result, Ok}
+use Rattle.std.specs.Prelude.{ℕ, Bool, true, ◌==◌, if◌then◌else◌, ℤ, pos, List, [], ◌∷◌, codes, Option}
+use Rattle.std.specs.Prelude.{Some, None, is_ok, Result, Ok}
 use Rattle.std.specs.List.{slice_index_or}
 use Rattle.std.specs.Option.{option_map_or}
 use Rattle.serde_json.specs.Events.{items_len}

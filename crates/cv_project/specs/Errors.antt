@@ -3,7 +3,8 @@ use Rattle.std.specs.Prelude.{Result, Ok, Err}
 use Rattle.cv_project.specs.declared.error.ProjectError.{ProjectError}
 use Rattle.cv_project.specs.declared.error.ProjectError.TheVariants as error
 use Rattle.cv_project.specs.declared.refusal.Refusal.{Refusal}
-use Rattle.cv_project.specs.declared.refusal.Refusal.TheVariants.{Missing, WrongKind, Unknown, Duplicate, Limit, BadVersion, NoMemory}
+use Rattle.cv_project.specs.declared.refusal.Refusal.TheVariants.{Missing, WrongKind, Unknown, Duplicate}
+use Rattle.cv_project.specs.declared.refusal.Refusal.TheVariants.{Limit, BadVersion, NoMemory}
 
 -- the error of a refusal
 abbrev pub error_of : Refusal → ProjectError

@@ -1,5 +1,7 @@
 -- Kinds of values: how each is spelled in JSON, and in which range it must be.
-use Rattle.std.specs.Prelude.{ℕ, Bool, ◌&&◌, nat_le, if◌then◌else◌, ℤ, pos, negsuc, int_le, List, length, slice_index, find, bytes_eq, Option, Some, None, option_map, option_and_then, Result, Ok, Err}
+use Rattle.std.specs.Prelude.{ℕ, Bool, ◌&&◌, nat_le, if◌then◌else◌, ℤ, pos, negsuc, int_le, List, length}
+use Rattle.std.specs.Prelude.{slice_index, find, bytes_eq, Option, Some, None, option_map, option_and_then}
+use Rattle.std.specs.Prelude.{Result, Ok, Err}
 use Rattle.std.specs.Option.{option_or}
 use Rattle.std.specs.Result.{result_ok}
 use Rattle.hex.specs.Hex.{decode_sized}
@@ -58,7 +60,8 @@ flag_of node = spelled node (as_bool node.value)
 
 -- a string that is one of these words
 unfoldable pub word_in : {X : Type 0} → (X → List ℕ) → List X → TreeNode → Result X Refusal
-word_in spelling all node = spelled node (option_and_then (λ bytes. find (λ x. bytes_eq (spelling x) bytes) all) (as_str node.value))
+word_in spelling all node = spelled node (option_and_then (λ bytes. find (λ x. bytes_eq
+    (spelling x) bytes) all) (as_str node.value))
 
 -- a string that spells a decimal, with a number of millionths in this range
 unfoldable pub decimal_in : ℤ → ℤ → TreeNode → Result ℤ Refusal
@@ -85,7 +88,8 @@ rgb_spelled bytes = option_map rgb_of (result_ok (decode_sized bytes 3))
 
 -- the colour of six hexadecimal digits, which is opaque, or of eight
 abbrev pub rgba_spelled : List ℕ → Option Rgba
-rgba_spelled bytes = option_or (option_map opaque (rgb_spelled bytes)) (option_map rgba_of (result_ok (decode_sized bytes 4)))
+rgba_spelled bytes = option_or (option_map opaque (rgb_spelled bytes)) (option_map rgba_of (result_ok
+    (decode_sized bytes 4)))
 
 -- a string of six hexadecimal digits
 unfoldable pub background_of : TreeNode → Result Rgb Refusal

@@ -1,5 +1,6 @@
 -- The table of layers.
-use Rattle.std.specs.Prelude.{◌≡◌, ℕ, Bool, true, ◌==◌, All, map, nat_eq, if◌then◌else◌, List, [], ◌∷◌, codes, Result, Ok, Err}
+use Rattle.std.specs.Prelude.{◌≡◌, ℕ, Bool, true, ◌==◌, All, map, nat_eq, if◌then◌else◌, List, [], ◌∷◌}
+use Rattle.std.specs.Prelude.{codes, Result, Ok, Err}
 use Rattle.std.specs.List.{list_any, IsDistinct}
 use Rattle.std.proofs.Common.{arith}
 use Rattle.cv_model.specs.ProjectFiles.{IsLayer, is_grid_source}
@@ -18,17 +19,20 @@ use Rattle.cv_project.specs.Words.{blend_word, blends}
 
 -- an id isn't one of an earlier layer
 unfoldable pub new_id : List LayerFile → ℕ → Result (Unit {0}) Refusal
-new_id before id = if list_any (λ (layer : LayerFile). id == layer.id) before then Err (Duplicate id) else Ok tt
+new_id before id = if list_any (λ (layer : LayerFile). id == layer.id) before
+    then Err (Duplicate id) else Ok tt
 
 -- the scales, which are a field from version 2 on
 unfoldable pub versioned_scales : ℕ → TreeNode → Result ScaleBounds Refusal
-versioned_scales version node = if version == 1 then Ok all_scales else with_default all_scales scales_of (codes "scales") node
+versioned_scales version node = if version == 1
+    then Ok all_scales else with_default all_scales scales_of (codes "scales") node
 
 -- the fields of a layer in each version
 unfoldable pub layer_names : ℕ → List (List ℕ)
 layer_names version =
     let first =
-    codes "blend" ∷ codes "id" ∷ codes "join" ∷ codes "mask" ∷ codes "name" ∷ codes "opacity" ∷ codes "source" ∷ codes "style"
+    codes "blend" ∷ codes "id" ∷ codes "join" ∷ codes "mask" ∷ codes "name" ∷ codes "opacity"
+    ∷ codes "source" ∷ codes "style"
     ∷ codes "visible" ∷ [] in
     if version == 1 then first else codes "scales" ∷ first
 

@@ -1,5 +1,6 @@
 -- The tables of styles.
-use Rattle.std.specs.Prelude.{ℕ, Bool, true, false, not, ◌&&◌, if◌then◌else◌, ℤ, int_lt, List, [], ◌∷◌, codes, is_some, Option, Some, None, Result, Ok, Err}
+use Rattle.std.specs.Prelude.{ℕ, Bool, true, false, not, ◌&&◌, if◌then◌else◌, ℤ, int_lt, List, [], ◌∷◌}
+use Rattle.std.specs.Prelude.{codes, is_some, Option, Some, None, Result, Ok, Err}
 use Rattle.cv_model.specs.declared.ramp.Stop.{Stop}
 use Rattle.cv_model.specs.declared.style.Class.{Class}
 use Rattle.cv_model.specs.declared.style.Field.{Field}
@@ -44,7 +45,8 @@ names_twice node = is_some (field (codes "field") node) && is_some (field (codes
 
 -- the fields of a style that reads a column, among others; `joined` beside `field` is none of them
 abbrev pub column_names : TreeNode → List (List ℕ) → List (List ℕ)
-column_names node names = if names_twice node then codes "field" ∷ names else codes "field" ∷ codes "joined" ∷ names
+column_names node names = if names_twice node
+    then codes "field" ∷ names else codes "field" ∷ codes "joined" ∷ names
 
 -- ---- the members of lists
 
@@ -128,7 +130,8 @@ fits false style = not (is_for_grids style)
 
 -- a kind of style is one that fits the source
 unfoldable pub fitting : Bool → StyleKind → TreeNode → Result (Unit {0}) Refusal
-fitting grid style node = if fits grid style then Ok tt else Err (WrongKind (field_path node.path (codes "kind")))
+fitting grid style node = if fits grid style
+    then Ok tt else Err (WrongKind (field_path node.path (codes "kind")))
 
 -- the fields of each kind of style
 abbrev pub styled : StyleKind → TreeNode → Result Style Refusal

@@ -3,7 +3,9 @@
 -- Source of the blend modes' words: W3C Compositing and Blending Level 1; `addition` is this project's own.
 use Rattle.std.specs.Prelude.{ℕ, List, [], ◌∷◌, codes}
 use Rattle.cv_model.specs.declared.blend.Blend.{Blend}
-use Rattle.cv_model.specs.declared.blend.Blend.TheVariants.{Normal, Multiply, Screen, Overlay, Darken, Lighten, ColorDodge, ColorBurn, HardLight, Difference, Exclusion, Addition}
+use Rattle.cv_model.specs.declared.blend.Blend.TheVariants.{Normal, Multiply, Screen, Overlay, Darken}
+use Rattle.cv_model.specs.declared.blend.Blend.TheVariants.{Lighten, ColorDodge, ColorBurn, HardLight}
+use Rattle.cv_model.specs.declared.blend.Blend.TheVariants.{Difference, Exclusion, Addition}
 use Rattle.cv_model.specs.declared.delimiter.Delimiter.{Delimiter}
 use Rattle.cv_model.specs.declared.delimiter.Delimiter.TheVariants.{Comma, Semicolon, Tab}
 use Rattle.cv_model.specs.declared.ramp.RampKind.{RampKind}
@@ -31,7 +33,8 @@ blend_word Addition = codes "addition"
 
 abbrev pub blends : List Blend
 blends =
-    Normal ∷ Multiply ∷ Screen ∷ Overlay ∷ Darken ∷ Lighten ∷ ColorDodge ∷ ColorBurn ∷ HardLight ∷ Difference ∷ Exclusion
+    Normal ∷ Multiply ∷ Screen ∷ Overlay ∷ Darken ∷ Lighten ∷ ColorDodge ∷ ColorBurn ∷ HardLight
+    ∷ Difference ∷ Exclusion
     ∷ Addition ∷ []
 
 abbrev pub delimiter_word : Delimiter → List ℕ

@@ -1,7 +1,8 @@
-//! The project file, read and written.
+//! The project file, read.
 //!
-//! Contract: a file is read exactly where its JSON tree says it, and else the refusal that the tables name is answered.
-//! Definitions: `Fields`, `Lists` and `Kinds`, by which the tables of `Symbols` to `Projects` are written, one line a field.
+//! Contract: a file is read exactly where its JSON tree says it, and else the refusal that the tables name is
+//! answered. Definitions: `Fields`, `Lists` and `Kinds`, by which the tables of `Symbols` to `Projects` are
+//! written, one line a field.
 //! Memory is taken for the tree and for what is read; no handle is needed.
 #![tactic(auto)]
 

@@ -89,7 +89,8 @@ pub fn members<'x, M: Member>(
     node: &'x Node<'x>,
     items: &'x [Value],
 ) -> Result<Sequence<M::Made>, Refusal>
-    ensures exact { Answers result (members_from (M.made of.now) (seen node.now).path [] (items_view items.now)) }
+    ensures exact { Answers result
+        (members_from (M.made of.now) (seen node.now).path [] (items_view items.now)) }
     ensures kept { IfOk result (M.keeps of.now) }
     ensures count { IfOk result (λ xs. length xs ≡ length items.now) }
 {

@@ -59,7 +59,8 @@ impl<'a> Node<'a> {
 
     /// The refusal of a field's value of another kind.
     pub fn wrong_kind_at(&self, name: &str) -> Refusal
-        ensures { (result ≢ Refusal.NoMemory) → result ≡ Refusal.WrongKind (field_path (seen self.now).path name.now) }
+        ensures { (result ≢ Refusal.NoMemory)
+            → result ≡ Refusal.WrongKind (field_path (seen self.now).path name.now) }
     {
         match Path::Field(&self.path, name).text(self.alloc) {
             Ok(path) => Refusal::WrongKind(path),
@@ -79,7 +80,8 @@ impl<'a> Node<'a> {
 
     /// The refusal of an object without a field.
     pub fn missing(&self, name: &str) -> Refusal
-        ensures { (result ≢ Refusal.NoMemory) → result ≡ Refusal.Missing (field_path (seen self.now).path name.now) }
+        ensures { (result ≢ Refusal.NoMemory)
+            → result ≡ Refusal.Missing (field_path (seen self.now).path name.now) }
     {
         match Path::Field(&self.path, name).text(self.alloc) {
             Ok(path) => Refusal::Missing(path),
@@ -89,7 +91,8 @@ impl<'a> Node<'a> {
 
     /// The refusal of a key that is no field's.
     pub fn unknown(&self, key: &str) -> Refusal
-        ensures { (result ≢ Refusal.NoMemory) → result ≡ Refusal.Unknown (field_path (seen self.now).path key.now) }
+        ensures { (result ≢ Refusal.NoMemory)
+            → result ≡ Refusal.Unknown (field_path (seen self.now).path key.now) }
     {
         match Path::Field(&self.path, key).text(self.alloc) {
             Ok(path) => Refusal::Unknown(path),
@@ -114,7 +117,8 @@ impl<'a> Node<'a> {
 
     /// A member of the list that stands here.
     pub fn member<'b>(&'b self, at: usize, value: &'b Value) -> Node<'b>
-        ensures { seen result ≡ record { path = member_path (seen self.now).path at; value = view value.now } }
+        ensures { seen result
+            ≡ record { path = member_path (seen self.now).path at; value = view value.now } }
     {
         Node {
             alloc: self.alloc,
@@ -219,7 +223,8 @@ fn is_among(names: &[&str], key: &str) -> bool
 
 /// The first key in byte order that isn't among these names.
 fn first_other<'a>(names: &[&str], members: &'a Map<String, Value>) -> Option<&'a str>
-    ensures { option_map (λ key. key.now) result ≡ first_other (map (λ n. n.now) names.now) (members_view members.now.entries) }
+    ensures { option_map (λ key. key.now) result
+        ≡ first_other (map (λ n. n.now) names.now) (members_view members.now.entries) }
 {
     for (key, _) in members {
         if !is_among(names, key.as_str()) {

@@ -6,7 +6,8 @@ ghost use Rattle.cv_project.specs.Paths.{path_text};
 use cv_model::{NoMemory, Text};
 use std::alloc::Global;
 
-/// The way from the top of the tree to a part, kept as borrowed steps: its text is made where a refusal needs it.
+/// The way from the top of the tree to a part, kept as borrowed steps: its text is made where a refusal needs
+/// it.
 #[derive(Clone, Copy)]
 pub enum Path<'a> {
     /// The top of the tree.

@@ -42,10 +42,12 @@ fn names_twice(node: &Node<'_>) -> bool
     node.field("field").is_some() && node.field("joined").is_some()
 }
 
-/// Whether a style has no keys but `field` and these, where `joined` stands beside it, and else no keys but those.
+/// Whether a style has no keys but the first names where `joined` stands beside `field`, and else no keys but
+/// the second.
 fn only_columns(node: &Node<'_>, twice: &[&str], once: &[&str]) -> Result<(), Refusal>
     ensures { Answers result
-        (no_others (if names_twice (seen node.now) then map (λ n. n.now) twice.now else map (λ n. n.now) once.now) (seen node.now)) }
+        (no_others (if names_twice (seen node.now)
+        then map (λ n. n.now) twice.now else map (λ n. n.now) once.now) (seen node.now)) }
 {
     if names_twice(node) {
         node.no_others(twice)

@@ -8,5 +8,6 @@ abbrev pub invariant-loop-key : goal.invariant-loop-key
 invariant-loop-key l = record {
   can : (goal.iterator-loop-key).can_next l.key-iterator;
   ends : (goal.iterator-loop-key).is_finite l.key-iterator;
-  rest : first_other (map (λ n. n.now) l.names) (members_view l.key-iterator) ≡ first_other (map (λ n. n.now) l.names) (members_view l.members.entries);
+  rest : first_other (map (λ n. n.now) l.names) (members_view l.key-iterator)
+      ≡ first_other (map (λ n. n.now) l.names) (members_view l.members.entries);
 }

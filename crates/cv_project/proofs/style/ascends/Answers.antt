@@ -12,6 +12,7 @@ returns-then-not-is_above c =
     let rest = c.in-Some.rest.now in
     let at = c.loop-stop.stop-index in
     let last = to_z w64 c.loop-stop.last-bits in
-    sym (ascends_from-stops last (get_or rest at none) (drop (at + 1) rest) (sym c.is_above.ensures ∙ c.if-not-is_above.true))
+    sym (ascends_from-stops last (get_or rest at none) (drop (at + 1) rest) (sym c.is_above.ensures
+    ∙ c.if-not-is_above.true))
     ∙ ap (ascends_from last) (sym (drop_more rest at none (omega arith)))
     ∙ c.loop-stop.invariant

@@ -10,5 +10,6 @@ of-requires c =
       least = c.in_ok-stops.ensures.kept.1;
       most = c.in_ok-stops.ensures.kept.2;
       in_range = c.in_ok-stops.ensures.kept.0;
-      ascends = ascends-Ascends c.in_ok-stops.stops (sym (c.ascends.ensures ∙ ap ascends c.as_slice.ensures) ∙ passes);
+      ascends = ascends-Ascends c.in_ok-stops.stops (sym (c.ascends.ensures
+          ∙ ap ascends c.as_slice.ensures) ∙ passes);
     }

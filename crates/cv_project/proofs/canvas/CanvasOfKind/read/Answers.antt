@@ -9,5 +9,6 @@ returns-clause-kept c =
     record {
       size = is_size-holds c.in_ok-width.width c.in_ok-height.height (sym c.is_size.ensures ∙ size);
       cache = c.in_ok-cache.ensures.kept.1;
-      extent = can_show-shown c.in_ok-width.width c.in_ok-height.height c.in_ok-extent.extent (sym c.can_show.ensures ∙ shown);
+      extent = can_show-shown c.in_ok-width.width c.in_ok-height.height c.in_ok-extent.extent
+          (sym c.can_show.ensures ∙ shown);
     }

@@ -8,7 +8,13 @@ use Rattle.cv_project.proofs.node.Node.field.Goals as goal
 
 pub returns : goal.returns
 returns c =
-    let step = path_text-Field (record { ref_ptr = (c.args.self.ref_ptr.0, c.args.self.ref_ptr.1 + 0); now = c.args.self.now.path }) c.args.name in
-    ap (λ p. Some (let node : TreeNode = record { path = p; value = view c.in_ok-value.value.now } in node)) step
-    ∙ sym (field-some c.args.name.now (seen c.args.self.now) (view c.in_ok-value.value.now) c.in_ok-value.ensures
+    let step = path_text-Field (record {
+      ref_ptr =
+          (c.args.self.ref_ptr.0, c.args.self.ref_ptr.1 + 0);
+      now = c.args.self.now.path;
+    }) c.args.name in
+    ap (λ p. Some (let node : TreeNode = record { path = p; value = view c.in_ok-value.value.now } in
+    node)) step
+    ∙ sym (field-some c.args.name.now (seen c.args.self.now)
+    (view c.in_ok-value.value.now) c.in_ok-value.ensures
     (sym c.is_null.ensures ∙ c.if-is_null.false))

@@ -6,4 +6,5 @@ use Rattle.cv_project.proofs.node.Node.tested.Goals as goal
 
 pub returns-in-Ok-clause-exact : goal.returns-in-Ok-clause-exact
 unfolding tested
-returns-in-Ok-clause-exact c = λ _. rw c.if-test.false (sym (ap (λ p. Err (Limit p)) (c.in-Ok.ensures ∙ path_text-Field _ c.args.name)))
+returns-in-Ok-clause-exact c = λ _. rw c.if-test.false (sym (ap (λ p. Err (Limit p)) (c.in-Ok.ensures
+    ∙ path_text-Field _ c.args.name)))
