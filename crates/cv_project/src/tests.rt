@@ -4,20 +4,37 @@ use crate::{ProjectError, read};
 use std::alloc::Global;
 use std::test::Fail;
 
-/// What a refusal is called, with its path or number.
+/// A word and a path.
+fn told(alloc: Global, word: &str, path: &str) -> Result<String, Fail> {
+    let mut text = String::from_str(alloc, word)?;
+    text.push(' ')?;
+    text.push_str(path)?;
+    Ok(text)
+}
+
+/// What an error is called, with its path.
+fn named(alloc: Global, error: &ProjectError) -> Result<String, Fail> {
+    match error {
+        ProjectError::NotJson => told(alloc, "not", "json"),
+        ProjectError::Missing(path) => told(alloc, "missing", path.as_str()),
+        ProjectError::WrongKind(path) => told(alloc, "kind", path.as_str()),
+        ProjectError::Unknown(path) => told(alloc, "unknown", path.as_str()),
+        ProjectError::Duplicate(id) => {
+            let text = format!(in alloc; "duplicate {id}")?;
+            Ok(text)
+        }
+        ProjectError::Limit(path) => told(alloc, "limit", path.as_str()),
+        ProjectError::BadVersion => told(alloc, "bad", "version"),
+        ProjectError::NoMemory => told(alloc, "no", "memory"),
+    }
+}
+
+/// What a text is refused as.
 fn refused(alloc: Global, text: &str) -> Result<String, Fail> {
-    let told = match read(alloc, text.as_bytes()) {
-        Ok(_) => String::from_str(alloc, "ok")?,
-        Err(ProjectError::NotJson) => String::from_str(alloc, "not json")?,
-        Err(ProjectError::Missing(path)) => format!(in alloc; "missing {}", path.as_str())?,
-        Err(ProjectError::WrongKind(path)) => format!(in alloc; "kind {}", path.as_str())?,
-        Err(ProjectError::Unknown(path)) => format!(in alloc; "unknown {}", path.as_str())?,
-        Err(ProjectError::Duplicate(id)) => format!(in alloc; "duplicate {id}")?,
-        Err(ProjectError::Limit(path)) => format!(in alloc; "limit {}", path.as_str())?,
-        Err(ProjectError::BadVersion) => String::from_str(alloc, "version")?,
-        Err(ProjectError::NoMemory) => String::from_str(alloc, "memory")?,
-    };
-    Ok(told)
+    match read(alloc, text.as_bytes()) {
+        Ok(_) => told(alloc, "all", "right"),
+        Err(error) => named(alloc, &error),
+    }
 }
 
 /// A file of version 2 with one canvas, given by its fields, and no layers.
@@ -62,8 +79,8 @@ fn the_whole_is_judged_field_by_field(rt: HostRuntime) -> Result<(), Fail> {
         ("{\"version\":null}", "missing version"),
         ("{\"version\":\"1\"}", "kind version"),
         ("{\"version\":1.0}", "kind version"),
-        ("{\"version\":3}", "version"),
-        ("{\"version\":0,\"zoom\":1}", "version"),
+        ("{\"version\":3}", "bad version"),
+        ("{\"version\":0,\"zoom\":1}", "bad version"),
         ("{\"version\":1}", "missing background"),
         (
             "{\"version\":1,\"background\":\"fffff\"}",
@@ -103,7 +120,7 @@ fn the_whole_is_judged_field_by_field(rt: HostRuntime) -> Result<(), Fail> {
         ),
         (
             "{\"version\":1,\"background\":\"ffffff\",\"canvases\":[],\"layers\":[]}",
-            "ok",
+            "all right",
         ),
     ];
     for (text, told) in table {
@@ -152,11 +169,11 @@ fn canvases_are_judged_field_by_field(rt: HostRuntime) -> Result<(), Fail> {
         ),
         (
             "\"width\":4,\"height\":4,\"cache\":null,\"extent\":null",
-            "ok",
+            "all right",
         ),
         (
             "\"width\":4096,\"height\":512,\"cache\":0,\"extent\":[\"0\",\"0\",\"4\",\"4\"]",
-            "ok",
+            "all right",
         ),
     ];
     for (canvas, told) in table {
@@ -265,7 +282,7 @@ fn styles_are_judged_field_by_field(rt: HostRuntime) -> Result<(), Fail> {
         ),
         (
             "\"kind\":\"categorised\",\"field\":\"a\",\"joined\":null,\"classes\":[]",
-            "ok",
+            "all right",
         ),
         (
             "\"kind\":\"categorised\",\"joined\":\"a\",\"classes\":[{\"value\":\"b\",\"symbol\":{\"pen\":{\"colour\":\"000000\",\"width\":0}}}]",
@@ -300,7 +317,7 @@ fn styles_are_judged_field_by_field(rt: HostRuntime) -> Result<(), Fail> {
         ),
         (
             "\"ramp\":\"exact\",\"stops\":[{\"value\":\"1\",\"colour\":\"00000080\"}]",
-            "ok",
+            "all right",
         ),
     ];
     for (ramp, told) in ramps {
@@ -331,10 +348,10 @@ fn scales_are_a_field_from_version_2_on(rt: HostRuntime) -> Result<(), Fail> {
     let alloc = rt.alloc();
     let scales = ",\"scales\":{\"least\":\"0.5\",\"greatest\":\"0.75\"}";
     let table = [
-        ("1", "", "ok"),
+        ("1", "", "all right"),
         ("1", scales, "unknown layers[0].scales"),
         ("1", ",\"scales\":null", "unknown layers[0].scales"),
-        ("2", scales, "ok"),
+        ("2", scales, "all right"),
         (
             "2",
             ",\"scales\":{\"least\":\"0.75\",\"greatest\":\"0.5\"}",
@@ -346,7 +363,7 @@ fn scales_are_a_field_from_version_2_on(rt: HostRuntime) -> Result<(), Fail> {
             "limit layers[0].scales.least",
         ),
         ("2", ",\"opacity\":256", "limit layers[0].opacity"),
-        ("3", "", "version"),
+        ("3", "", "bad version"),
     ];
     for (version, first, told) in table {
         let text = two(alloc, version, first)?;
