@@ -37,6 +37,14 @@ impl<T> Classes<T> {
         }
     }
 
+    /// These classes, of which there are at most 1,024.
+    pub fn of(items: Sequence<T>) -> Self
+        requires { AreClasses items }
+        ensures { result ≡ items }
+    {
+        Classes { items }
+    }
+
     /// Puts a class behind the others, where there are fewer than 1,024. A refusal hands it back and
     /// changes nothing.
     pub fn push(&mut self, item: T) -> Result<(), (T, NoMemory)>
