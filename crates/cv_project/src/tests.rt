@@ -48,7 +48,8 @@ fn with_canvas(alloc: Global, canvas: &str) -> Result<String, Fail> {
 /// A file of version 2 with one layer, given by what stands behind its id and name.
 fn with_layer(alloc: Global, layer: &str) -> Result<String, Fail> {
     let text = format!(in alloc;
-        "{{\"version\":2,\"background\":\"ffffff\",\"canvases\":[],\"layers\":[{{\"id\":1,\"name\":\"a\",{layer}}}]}}"
+        "{{\"version\":2,\"background\":\"ffffff\",\"canvases\":[],
+\"layers\":[{{\"id\":1,\"name\":\"a\",{layer}}}]}}"
     )?;
     Ok(text)
 }
@@ -285,7 +286,8 @@ fn styles_are_judged_field_by_field(rt: HostRuntime) -> Result<(), Fail> {
             "all right",
         ),
         (
-            "\"kind\":\"categorised\",\"joined\":\"a\",\"classes\":[{\"value\":\"b\",\"symbol\":{\"pen\":{\"colour\":\"000000\",\"width\":0}}}]",
+            "\"kind\":\"categorised\",\"joined\":\"a\",
+\"classes\":[{\"value\":\"b\",\"symbol\":{\"pen\":{\"colour\":\"000000\",\"width\":0}}}]",
             "limit layers[0].style.classes[0].symbol.pen.width",
         ),
         (
@@ -308,7 +310,8 @@ fn styles_are_judged_field_by_field(rt: HostRuntime) -> Result<(), Fail> {
             "limit layers[0].style.stops",
         ),
         (
-            "\"ramp\":\"exact\",\"stops\":[{\"value\":\"1\",\"colour\":\"000000\"},{\"value\":\"1\",\"colour\":\"000000\"}]",
+            "\"ramp\":\"exact\",
+\"stops\":[{\"value\":\"1\",\"colour\":\"000000\"},{\"value\":\"1\",\"colour\":\"000000\"}]",
             "limit layers[0].style.stops",
         ),
         (
@@ -333,7 +336,8 @@ fn two(alloc: Global, version: &str, first: &str) -> Result<String, Fail> {
         "{{\"version\":{version},\"background\":\"ffffff\",
  \"canvases\":[{{\"width\":4,\"height\":4,\"cache\":1024,\"extent\":[\"0\",\"0\",\"4\",\"4\"]}}],
  \"layers\":[
- {{\"id\":2,\"name\":\"top\",\"source\":{{\"kind\":\"text\",\"file\":\"top.csv\"}},\"blend\":\"multiply\"{first},
+ {{\"id\":2,\"name\":\"top\",\"source\":{{\"kind\":\"text\",\"file\":\"top.csv\"}},
+  \"blend\":\"multiply\"{first},
   \"style\":{{\"kind\":\"single\",\"symbol\":{{\"fill\":\"646464\"}}}}}},
  {{\"id\":1,\"name\":\"base\",\"source\":{{\"kind\":\"text\",\"file\":\"base.csv\"}},\"mask\":3,
   \"style\":{{\"kind\":\"single\",\"symbol\":{{\"fill\":\"c8c8c8\"}}}}}},
@@ -370,7 +374,8 @@ fn scales_are_a_field_from_version_2_on(rt: HostRuntime) -> Result<(), Fail> {
         assert_eq!(rt; refused(alloc, text.as_str())?.as_str(), told, "{first}");
     }
     let twice = "{\"version\":2,\"background\":\"ffffff\",\"canvases\":[],\"layers\":[
- {\"id\":2,\"name\":\"a\",\"source\":{\"kind\":\"text\",\"file\":\"f\"},\"style\":{\"kind\":\"single\",\"symbol\":{}}},{\"id\":2,\"opacity\":256}]}";
+ {\"id\":2,\"name\":\"a\",\"source\":{\"kind\":\"text\",\"file\":\"f\"},
+  \"style\":{\"kind\":\"single\",\"symbol\":{}}},{\"id\":2,\"opacity\":256}]}";
     assert_eq!(rt; refused(alloc, twice)?.as_str(), "duplicate 2");
     Ok(())
 }
