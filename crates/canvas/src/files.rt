@@ -1,6 +1,6 @@
 //! The real files, as a shelf and a tray. They tell nothing of content, and count each failure of the system.
 
-ghost use Rattle.std.specs.Prelude.{false, ◌≡◌, ◌≢◌, ◌≤◌, [], length, take, OnOk, IfSome};
+ghost use Rattle.std.specs.Prelude.{false, ◌≡◌, ◌≢◌, ◌+◌, ◌≤◌, min, [], length, take, OnOk, IfSome};
 ghost use Rattle.cv_outside.specs.Counts.{Rose};
 ghost use Rattle.cv_outside.specs.Reads.{ReadCause};
 
@@ -50,24 +50,26 @@ enum Broken {
     NoMemory,
 }
 
-/// Reads the first `most` bytes of a file, or all if there are fewer.
-fn fill<R: Read + Drop>(file: R, most: u64, into: &mut Vec<u8>) -> Result<(), Broken>
+/// Reads the first `max + 1` bytes of a file, or all if there are fewer.
+fn fill<R: Read + Drop>(file: R, max: u64, into: &mut Vec<u8>) -> Result<(), Broken>
     requires { into.old.items ≡ [] }
-    ensures size { OnOk result (length into.new.items ≤ most) }
-    ensures bytes { OnOk result (IfSome (R.remaining file) (λ bytes. into.new.items ≡ take most bytes)) }
+    ensures size { OnOk result (length into.new.items ≤ max + 1) }
+    ensures bytes { OnOk result (IfSome (R.remaining file)
+        (λ bytes. into.new.items ≡ take (min (max + 1) 18446744073709551615) bytes)) }
 {
+    let most = max.saturating_add(1);
     let mut front = file.take(most);
     match front.read_to_end(into) {
         Ok(_) => {
             into.truncate(most as usize);
             Ok(())
         }
-        Err(error) => Err(unread(error.kind())),
+        Err(error) => Err(broken_by(error.kind())),
     }
 }
 
 /// Why a read failed.
-fn unread(kind: ErrorKind) -> Broken {
+fn broken_by(kind: ErrorKind) -> Broken {
     match kind {
         ErrorKind::OutOfMemory => Broken::NoMemory,
         _ => Broken::Read,
@@ -77,10 +79,12 @@ fn unread(kind: ErrorKind) -> Broken {
 /// What an open that failed with this kind says of the file: it is absent only where none was found.
 fn unopened(kind: ErrorKind) -> ReadEnd
     ensures absent { kind ≡ ErrorKind.NotFound → result ≡ ReadEnd.Absent }
-    ensures failed { kind ≢ ErrorKind.NotFound → result ≡ ReadEnd.Failed }
+    ensures memory { kind ≡ ErrorKind.OutOfMemory → result ≡ ReadEnd.NoMemory }
+    ensures failed { kind ≢ ErrorKind.NotFound → kind ≢ ErrorKind.OutOfMemory → result ≡ ReadEnd.Failed }
 {
     match kind {
         ErrorKind::NotFound => ReadEnd::Absent,
+        ErrorKind::OutOfMemory => ReadEnd::NoMemory,
         _ => ReadEnd::Failed,
     }
 }
@@ -104,7 +108,7 @@ impl<'a, R: Files> Shelf for FileShelf<'a, R> {
             Ok(file) => file,
             Err(error) => return self.refuse(unopened(error.kind())),
         };
-        match fill(file, max.saturating_add(1), into) {
+        match fill(file, max, into) {
             Ok(()) => ReadEnd::Found,
             Err(Broken::NoMemory) => {
                 into.clear();

@@ -18,7 +18,7 @@ use std::{env, io};
 /// The words behind the program's name. A word that isn't UTF-8 makes none of them a form.
 fn words<R: env::Env + AllocGlobal>(rt: &R) -> Result<Sequence<Text>, End> {
     let alloc = rt.alloc();
-    let given = env::args(rt).map_err(|error| unread(error.kind()))?;
+    let given = env::args(rt).map_err(|error| end_of_words(error.kind()))?;
     let mut words = Sequence::new(alloc);
     for word in given.skip(1) {
         let word = Text::of(alloc, word.as_str()).map_err(|_| End::NoMemory)?;
@@ -28,7 +28,7 @@ fn words<R: env::Env + AllocGlobal>(rt: &R) -> Result<Sequence<Text>, End> {
 }
 
 /// How a program ends whose words can't be read.
-fn unread(kind: io::ErrorKind) -> End {
+fn end_of_words(kind: io::ErrorKind) -> End {
     match kind {
         io::ErrorKind::OutOfMemory => End::NoMemory,
         _ => End::Usage,

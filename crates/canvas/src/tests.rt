@@ -1,8 +1,8 @@
 //! The command over real files, a writer that fails, and the lines on standard error.
+use crate::end_of_words;
 use crate::files::{FileShelf, FileTray};
 use crate::lines::conclude;
 use crate::output::Output;
-use crate::unread;
 use cv_dtext::TextError;
 use cv_outside::{Unwritten, write_all};
 use cv_testing::{pixmap, words_of};
@@ -61,6 +61,20 @@ fn real_files_are_read_and_written(rt: HostRuntime) -> Result<(), Fail> {
     Ok(())
 }
 
+// The last row is inked up to its middle.
+#[test]
+fn a_large_picture_is_written_whole(rt: HostRuntime) -> Result<(), Fail> {
+    fs::write(&rt, "map.csv", TEXT)?;
+    let end = play(&rt, "quick map.csv wide.ppm 512 512 0 0 4 4 010203");
+    assert_eq!(rt; end, End::Done);
+    let picture = fs::read(&rt, "wide.ppm")?;
+    assert_eq!(rt; picture.len(), 786_447);
+    for (at, want) in [(784_911, 1), (785_678, 3), (785_679, 255), (786_446, 255)] {
+        assert_eq!(rt; picture.get(at), Some(&want), "{at}");
+    }
+    Ok(())
+}
+
 // 20,000 points, and last a polygon over the upper half.
 fn long_text(alloc: Global) -> Result<Vec<u8>, AllocError> {
     let mut text = Vec::from_slice(alloc, b"wkt\n")?;
@@ -84,16 +98,17 @@ fn the_last_record_of_a_long_file_is_painted(rt: HostRuntime) -> Result<(), Fail
     Ok(())
 }
 
-// A writer that takes two bytes at a time, and fails once it has taken four.
+// A writer that takes two bytes at a time, and fails in this way once it has taken four.
 #[derive(Drop)]
 struct Narrow {
     taken: Vec<u8>,
+    kind: io::ErrorKind,
 }
 
 impl Write for Narrow {
     fn write(&mut self, piece: &[u8]) -> io::Result<usize> {
         if self.taken.len() >= 4 {
-            return Err(io::Error::from(io::ErrorKind::BrokenPipe));
+            return Err(io::Error::from(self.kind));
         }
         let n = piece.len().min(2);
         self.taken.extend_from_slice(&piece[..n])?;
@@ -107,10 +122,16 @@ impl Write for Narrow {
 
 #[test]
 fn a_writer_that_fails_is_a_fault(rt: HostRuntime) -> Result<(), Fail> {
-    let taken = Vec::new(rt.alloc());
-    let mut out = Output::new(Narrow { taken });
-    assert_eq!(rt; write_all(&mut out, b"hello"), Err(Unwritten::Failed));
-    assert_eq!(rt; out.writer().taken.as_slice(), b"hell".as_slice());
+    for kind in [
+        io::ErrorKind::BrokenPipe,
+        io::ErrorKind::Interrupted,
+        io::ErrorKind::Other,
+    ] {
+        let taken = Vec::new(rt.alloc());
+        let mut out = Output::new(Narrow { taken, kind });
+        assert_eq!(rt; write_all(&mut out, b"hello"), Err(Unwritten::Failed));
+        assert_eq!(rt; out.writer().taken.as_slice(), b"hell".as_slice());
+    }
     let mut out = Output::telling(Vec::new(rt.alloc()));
     assert_eq!(rt; write_all(&mut out, b"hello"), Ok(()));
     assert_eq!(rt; out.writer().as_slice(), b"hello".as_slice());
@@ -125,11 +146,15 @@ fn an_end_has_its_lines_and_its_status(rt: HostRuntime) -> Result<(), Fail> {
         (End::Done, 0, ""),
         (End::NoMemory, 1, "out of memory\n"),
         (
-            unread(io::ErrorKind::InvalidData),
+            end_of_words(io::ErrorKind::InvalidData),
             2,
             "usage\nquick <csv> <out> <w> <h> <xmin> <ymin> <xmax> <ymax> <rrggbb>\n",
         ),
-        (unread(io::ErrorKind::OutOfMemory), 1, "out of memory\n"),
+        (
+            end_of_words(io::ErrorKind::OutOfMemory),
+            1,
+            "out of memory\n",
+        ),
         (
             End::BadData(0, uneven),
             4,

@@ -8,9 +8,10 @@ ghost use Rattle.cv_dtext.specs.Records.{slice_left, IsBetween, bytes_left, reco
 ghost use Rattle.cv_dtext.specs.Gathered.{tabled};
 
 use crate::gathered::Gathered;
-use crate::options::{MOST_BYTES, TextError, TextOptions};
+use crate::options::{TextError, TextOptions};
 use crate::records::next_texts;
 use csv::{Reader, StringRecord};
+use cv_model::MOST_BYTES;
 use std::alloc::Global;
 
 /// Above the numbers of the turns: a record takes a byte at least, so there are as many as bytes at most, and

@@ -21,9 +21,9 @@ mod options;
 mod records;
 mod table;
 
-use cv_model::FeatureList;
+use cv_model::{FeatureList, MOST_BYTES};
 pub use laws::features_are_read;
-pub use options::{MOST_BYTES, TextError, TextOptions};
+pub use options::{TextError, TextOptions};
 use std::alloc::Global;
 
 /// The features of a delimited text, or why it is refused.

@@ -2,9 +2,6 @@
 
 use cv_model::{Delimiter, Room, Text};
 
-/// The most bytes that a text may have: 256 times 2^20.
-pub const MOST_BYTES: u64 = 268_435_456;
-
 /// How a delimited text is to be read.
 #[derive(Drop)]
 pub struct TextOptions {

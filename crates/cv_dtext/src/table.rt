@@ -5,9 +5,9 @@ ghost use Rattle.cv_dtext.specs.Refusals.{features_of};
 
 use crate::features::gather;
 use crate::fields::{column, other_texts};
-use crate::options::{MOST_BYTES, TextError, TextOptions};
+use crate::options::{TextError, TextOptions};
 use crate::records::{next_texts, records};
-use cv_model::FeatureList;
+use cv_model::{FeatureList, MOST_BYTES};
 use std::alloc::Global;
 
 /// The features of a text, or why it is refused; or want of memory.

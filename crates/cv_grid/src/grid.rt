@@ -7,13 +7,13 @@ use crate::cells::{read_cells, void_number};
 use crate::error::GridError;
 use crate::header::read_header;
 use crate::layout::Layout;
-use cv_model::Grid;
+use cv_model::{Grid, MOST_BYTES};
 use std::alloc::Global;
 
 /// The grid of a text without a byte order mark, or its first refusal; or want of memory.
 pub fn read_grid(alloc: Global, text: &[u8], room: u32) -> Result<Grid, GridError>
     requires room { room ≤ 16000000 }
-    requires short { length text.now ≤ 268435456 }
+    requires short { length text.now ≤ MOST_BYTES }
     ensures { (result ≢ Err GridError.NoMemory) → result ≡ grid_of room text.now }
 {
     let header = match read_header(text) {

@@ -10,6 +10,7 @@ use crate::error::GridError;
 use crate::settings::Settings;
 use crate::token::{front, line, rest, token_len};
 use crate::word::{Word, is_header_token};
+use cv_model::MOST_BYTES;
 
 /// What was said so far, and the word whose value is next.
 #[derive(Clone, Copy)]
@@ -40,7 +41,7 @@ impl Reading {
     #[tactic(auto, unfolding(crate::specs::Answers::taken))]
     fn take(self, text: &[u8], at: usize, token: &[u8]) -> Result<Option<Reading>, GridError>
         requires at { at ≤ length text.now }
-        requires short { length text.now ≤ 268435456 }
+        requires short { length text.now ≤ MOST_BYTES }
         requires range { IsInRange self.said }
         ensures value { result ≡ taken text.now self (record { at = at; bytes = token.now }) }
         ensures range { IfOk result (λ o. IfSome o (λ r. IsInRange r.said)) }
@@ -68,7 +69,7 @@ impl Reading {
 
 /// What the header of a text says, and where it ends; or its first refusal.
 pub fn read_header(text: &[u8]) -> Result<Header, GridError>
-    requires { length text.now ≤ 268435456 }
+    requires { length text.now ≤ MOST_BYTES }
     ensures ok { IfOk result (λ h. header_from text.now (tokens_of text.now) at_start
         ≡ Ok (h.said, cut byte_kind h.end (drop h.end text.now))) }
     ensures within { IfOk result (λ h. h.end ≤ length text.now) }

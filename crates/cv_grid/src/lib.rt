@@ -28,7 +28,7 @@ mod word;
 
 use crate::grid::read_grid;
 use crate::token::without_mark;
-use cv_model::Grid;
+use cv_model::{Grid, MOST_BYTES};
 pub use error::{GridError, GridWord};
 pub use laws::grids_are_spelt;
 use std::alloc::Global;
@@ -44,7 +44,7 @@ use std::alloc::Global;
 /// Source: the ASCII grid after ESRI's, in outline; each rule is this project's own.
 pub fn read(alloc: Global, bytes: &[u8], room: u32) -> Result<Grid, GridError>
     requires room { room ≤ 16000000 }
-    requires short { length bytes.now ≤ 268435456 }
+    requires short { length bytes.now ≤ MOST_BYTES }
     // The text spells the grid, and no other.
     ensures found { IfOk result (Spells room (without_mark bytes.now)) }
     ensures only { (g : CellGrid) → Spells room (without_mark bytes.now) g

@@ -5,6 +5,7 @@ ghost use Rattle.cv_reading.specs.Tokens.{is_word};
 ghost use Rattle.cv_grid.specs.Tokens.{byte_kind, without_mark, line_at};
 ghost use Rattle.cv_grid.specs.Scanning.{front_len};
 
+use cv_model::MOST_BYTES;
 use cv_reading::is_space;
 
 /// The bytes behind a byte order mark, where one stands in front.
@@ -53,7 +54,7 @@ pub fn rest(text: &[u8], at: usize) -> &[u8]
 /// The line of an offset, from 1.
 pub fn line(text: &[u8], at: usize) -> u32
     requires at { at ≤ length text.now }
-    requires short { length text.now ≤ 268435456 }
+    requires short { length text.now ≤ MOST_BYTES }
     ensures { result ≡ line_at text.now at }
 {
     let before = front(text, at)

@@ -18,7 +18,8 @@ use Rattle.cv_top.specs.declared.ends.Which.TheVariants.{Layer, Output, Text}
 use Rattle.cv_top.specs.declared.orders.Order.{Order}
 use Rattle.cv_top.specs.declared.orders.Order.TheVariants.{Quick}
 use Rattle.cv_top.specs.Words.{IsOrder}
-use Rattle.cv_top.specs.Opened.{layer_of, most_bytes}
+use Rattle.cv_model.specs.declared.limits.TheConstants.{MOST_BYTES}
+use Rattle.cv_top.specs.Opened.{layer_of}
 use Rattle.cv_top.specs.Outcomes.{Asked, Product, Outcome, FilesFound, end_of, files_of, text_of, quick_asks, quick_layer, quick_product}
 use Rattle.cv_top.specs.Parts.{QuickParts}
 use Rattle.cv_top.proofs.LayerLemmas.{long_is_refused}
@@ -114,7 +115,7 @@ unread_end unread.NoMemory = NoMemory
 
 -- a run of `quick` whose file was not read
 pub quick_unread : (order : QuickParts) (why : Unread) (shelf shelf' : ShelfSeen) (tray : TraySeen) (out : SinkSeen) (name : List ℕ) (file : Option (List ℕ))
-    → name ≡ order.csv → (IsTrue shelf.tells → file ≡ shelf.files name) → IsUnread why file most_bytes
+    → name ≡ order.csv → (IsTrue shelf.tells → file ≡ shelf.files name) → IsUnread why file MOST_BYTES
     → UnreadCause why (Rose shelf.faults shelf'.faults) (Rose shelf.misses shelf'.misses)
     → (IsTrue shelf.tells → UnreadAsks why shelf.asked shelf'.asked name) → IsRunOf (Quick order) (unread_end why) shelf shelf' tray tray out out
 quick_unread order unread.TooLong shelf shelf' tray out name None csv same is cause asked = absurd is

@@ -4,6 +4,7 @@ use Rattle.std.specs.Prelude.{ℕ, nat_lt, if◌then◌else◌, List, length, co
 use Rattle.cv_model.specs.declared.colour.Rgb.{Rgb}
 use Rattle.cv_model.specs.declared.delimiter.Delimiter.TheVariants.{Comma}
 use Rattle.cv_model.specs.Features.{FeatureTable}
+use Rattle.cv_model.specs.declared.limits.TheConstants.{MOST_BYTES}
 use Rattle.cv_model.specs.Views.{PixelGrid}
 use Rattle.cv_model.specs.Layers.{Project}
 use Rattle.cv_model.specs.Pictures.{picture}
@@ -15,10 +16,6 @@ use Rattle.cv_paint.specs.Plain.{features_project}
 use Rattle.cv_dtext.specs.Refusals.{features_of}
 use Rattle.cv_top.specs.declared.ends.DataError.{DataError}
 use Rattle.cv_top.specs.declared.ends.DataError.TheVariants.{Text, TooLong}
-
--- the most bytes of a file
-abbrev pub most_bytes : ℕ
-most_bytes = 268435456
 
 -- how `quick` reads a delimited text: between commas, with the geometry under `wkt`, and how much at most
 abbrev pub quick_options : TextOptions
@@ -36,7 +33,7 @@ as_layer (Err e) = Err (Text e)
 -- the features that a file's bytes spell, or why the bytes are refused
 unfoldable pub layer_of : List ℕ → Result FeatureTable DataError
 layer_of bytes =
-    if nat_lt most_bytes (length bytes) then Err TooLong else as_layer (features_of quick_options bytes)
+    if nat_lt MOST_BYTES (length bytes) then Err TooLong else as_layer (features_of quick_options bytes)
 
 -- the project of `quick`: one layer of these features with an opaque fill, over white
 abbrev pub quick_project : FeatureTable → Rgb → Project

@@ -47,7 +47,7 @@ Untouched (ReadFault which) shelf tray out = tray × out
 Untouched (Missing which) shelf tray out = tray × out
 Untouched (WriteFault (Output k)) shelf tray out = out
 Untouched (WriteFault Text) shelf tray out = Unit {0}
-Untouched (WriteFault (Layer place)) shelf tray out = Unit {0}
+Untouched (WriteFault (Layer place)) shelf tray out = ⊥
 Untouched Done shelf tray out = Unit {0}
 Untouched NoMemory shelf tray out = Unit {0}
 

@@ -1,15 +1,12 @@
 //! What the file of a layer says.
 
 ghost use Rattle.std.specs.Prelude.{◌≡◌, ◌≤◌, length, codes, IfOk};
-ghost use Rattle.cv_top.specs.Opened.{most_bytes, quick_options, layer_of};
+ghost use Rattle.cv_top.specs.Opened.{quick_options, layer_of};
 
 use crate::ends::DataError;
 use cv_dtext::{TextError, TextOptions};
-use cv_model::{Delimiter, FeatureList, NoMemory, Room, Text};
+use cv_model::{Delimiter, FeatureList, MOST_BYTES, NoMemory, Room, Text};
 use std::alloc::{AllocError, Global};
-
-/// The most bytes of a file.
-pub(crate) const MOST_BYTES: u64 = 268_435_456;
 
 /// How much is read of a file.
 const ROOM: Room = Room {
@@ -36,7 +33,7 @@ pub(crate) fn read_layer(
     alloc: Global,
     bytes: &[u8],
 ) -> Result<Result<FeatureList, DataError>, NoMemory>
-    requires { length bytes.now ≤ most_bytes }
+    requires { length bytes.now ≤ MOST_BYTES }
     ensures { IfOk result (λ layer. layer ≡ layer_of bytes.now) }
 {
     let options = quick_options(alloc)?;

@@ -3,16 +3,16 @@
 ghost use Rattle.std.specs.Prelude.{◌≡◌, ◌≤◌, length, IfOk};
 ghost use Rattle.cv_model.specs.Symbols.{filled};
 ghost use Rattle.cv_outside.specs.Seen.{tray_seen, sink_seen};
-ghost use Rattle.cv_top.specs.Opened.{most_bytes, layer_of, picture_bytes};
+ghost use Rattle.cv_top.specs.Opened.{layer_of, picture_bytes};
 ghost use Rattle.cv_top.specs.Outcomes.{quick_layer};
 ghost use Rattle.cv_top.specs.Runs.{Untouched, IsWritten, Obeys};
 
 use crate::ends::{DataError, End, Which};
-use crate::layer::{MOST_BYTES, read_layer};
+use crate::layer::read_layer;
 use crate::orders::{Order, QuickOrder};
 use crate::outputs::{image_line, write_outputs};
 use cv_image::ppm;
-use cv_model::{FeatureList, NoMemory, Rgb, Rgba, Symbol, View};
+use cv_model::{FeatureList, MOST_BYTES, NoMemory, Rgb, Rgba, Symbol, View};
 use cv_outside::{Shelf, Sink, Tray, Unread, read_file};
 use std::alloc::Global;
 
@@ -77,7 +77,7 @@ fn paint_file<T: Tray, O: Sink>(
     tray: &mut T,
     out: &mut O,
 ) -> End
-    requires { length bytes.now ≤ most_bytes }
+    requires { length bytes.now ≤ MOST_BYTES }
     ensures untouched { Untouched result ⊥ (tray.new ≡ tray.old) (out.new ≡ out.old) }
     ensures written { IsWritten result (quick_layer order.now (layer_of bytes.now))
         (tray_seen T.Tray tray.old) (tray_seen T.Tray tray.new)

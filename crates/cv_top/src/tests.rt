@@ -433,12 +433,12 @@ fn large_layer(alloc: Global) -> Result<Vec<u8>, AllocError> {
     Ok(bytes)
 }
 
-// A pixmap whose left half is red, and its right half white.
-fn half_red(alloc: Global, size: &str, w: u32, h: u32) -> Result<Vec<u8>, AllocError> {
+// A pixmap whose first columns are red, and its others white.
+fn left_red(alloc: Global, size: &str, w: u32, h: u32, red: u32) -> Result<Vec<u8>, AllocError> {
     let mut bytes = pixmap(alloc, size, "", RED)?;
     for _ in 0..h {
         for i in 0..w {
-            let rest = if i < w / 2 { 0 } else { 255 };
+            let rest = if i < red { 0 } else { 255 };
             bytes.extend_from_slice(&[255, rest, rest])?;
         }
     }
@@ -449,11 +449,15 @@ fn half_red(alloc: Global, size: &str, w: u32, h: u32) -> Result<Vec<u8>, AllocE
 fn a_large_map_is_painted(rt: HostRuntime) -> Result<(), Fail> {
     let alloc = rt.alloc();
     let layer = large_layer(alloc)?;
-    for (size, w, h, top) in [("4096 1", 4096, 1, "0.125"), ("512 512", 512, 512, "512")] {
-        let line = format!(in alloc; "quick sq.csv sq.ppm {size} 0 0 512 {top} ff0000")?;
+    for (size, w, h, corner, red) in [
+        ("4096 1", 4096, 1, "512 0.125", 2048),
+        ("1 4096", 1, 4096, "0.125 512", 1),
+        ("512 512", 512, 512, "512 512", 256),
+    ] {
+        let line = format!(in alloc; "quick sq.csv sq.ppm {size} 0 0 {corner} ff0000")?;
         let found = run_of(alloc, line.as_str(), "sq.csv", layer.as_slice())?;
         assert_eq!(rt; found.end, End::Done, "{size}");
-        let want = half_red(alloc, size, w, h)?;
+        let want = left_red(alloc, size, w, h, red)?;
         assert!(rt; found.picture() == want.as_slice(), "{size}");
     }
     Ok(())
