@@ -1,4 +1,6 @@
 -- The ranges that cover a row.
+--
+-- Source: this project's own.
 use Rattle.std.specs.Prelude.{◌≡◌, ℕ, ◌-◌, ◌<◌, ◌≤◌, Bool, ◌&&◌, nat_le, nat_lt, List, [], ◌∷◌, ◌++◌}
 use Rattle.std.specs.Prelude.{length, slice_index_or as get_or, map, filter}
 use Rattle.std.specs.List.{enumerate_from, range_with_len}

@@ -1,4 +1,6 @@
 -- Spans: the runs of columns at which a test holds.
+--
+-- Source: this project's own.
 use Rattle.std.specs.Prelude.{ℕ, ◌+◌, ◌≡◌, ◌<◌, ◌≤◌, nat_lt, nat_le, Bool, ◌&&◌, List, [], ◌∷◌}
 use Rattle.std.specs.List.{list_any}
 use Rattle.cv_model.specs.declared.span.Span.{Span}

@@ -1,9 +1,9 @@
 //! Views of the map, and the exact tests of geometries against pixel centres.
 //!
-//! Contract: each call answers exactly what the definition of its name says, for all values of its types.
-//! Definitions: `Views`, `Falls` and `Spans` here; `Views`, `Polygons`, `Pens` and `Markers` of `cv_model`.
-//! Laws: `ViewLaws`, `Tilings`, and that of `Spans`.
-//! No call takes memory, no handle is needed.
+//! Contract: each call answers exactly what the definition of its name says, under its conditions; `Steps`
+//! counts what is visited. Definitions: `Views`, `Falls` and `Spans` here; `Views`, `Polygons`, `Pens` and
+//! `Markers` of `cv_model`. Laws: `ViewLaws`, `Tilings`, and that of `Spans`. No call takes memory, no
+//! handle is needed.
 #![tactic(auto)]
 
 mod centres;

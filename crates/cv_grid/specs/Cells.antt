@@ -1,4 +1,6 @@
 -- The cells that decimals give.
+--
+-- Source: this project's own.
 use Rattle.std.specs.Prelude.{if◌then◌else◌, ℤ, pos, negsuc, Option, Some, None}
 use Rattle.std.specs.Ordering.{int_eq}
 use Rattle.cv_model.specs.declared.grid.Cell.{Cell}

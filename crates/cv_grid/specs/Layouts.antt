@@ -1,4 +1,6 @@
 -- Where the cells of a header lie.
+--
+-- Source: this project's own.
 use Rattle.std.specs.Prelude.{ℕ, ◌*◌, nat_lt, Bool, ◌||◌, ℤ, pos, negsuc, ◌+ℤ◌, ◌-ℤ◌, ◌*ℤ◌, int_lt, Option}
 use Rattle.std.specs.Prelude.{Some, None, Result, Ok, Err}
 use Rattle.cv_grid.specs.declared.error.GridWord.{GridWord}

@@ -1,4 +1,6 @@
 -- Why a text is no grid: its tokens are judged from left to right, and the first that is wrong decides.
+--
+-- Source: this project's own.
 use Rattle.std.specs.Prelude.{◌≡◌, ℕ, ◌*◌, ◌<◌, true, Ok, List, [], ◌∷◌, ◌++◌, length, Some, None, Err}
 use Rattle.cv_reading.specs.Tokens.{Token}
 use Rattle.cv_number.specs.declared.fixed.Fixed.{Fixed}

@@ -18,6 +18,7 @@ mod cells;
 mod error;
 mod grid;
 mod header;
+mod laws;
 mod layout;
 mod numbers;
 mod settings;
@@ -29,6 +30,7 @@ use crate::grid::read_grid;
 use crate::token::without_mark;
 use cv_model::Grid;
 pub use error::{GridError, GridWord};
+pub use laws::grids_are_spelt;
 use std::alloc::Global;
 
 /// The grid of a text with at most `room` cells, or why it is none.
@@ -37,8 +39,8 @@ use std::alloc::Global;
 /// away. Pairs of a word and its value are the header, in any order and case: `ncols`, `nrows`, `xllcorner`
 /// or `xllcenter`, `yllcorner` or `yllcenter`, `cellsize` or `dx` and `dy`, and perhaps `nodata_value`,
 /// which else is -9999. Behind it stands a decimal for each cell, the northernmost row first and each row
-/// from the west. Numbers beyond 10^15 millionths count as that limit. A cell that is `nan` or equals the
-/// no-data value has no data.
+/// from the west. A cell or no-data value beyond 10^15 millionths counts as that limit. A cell that is `nan`
+/// or equals the no-data value has no data.
 /// Source: the ASCII grid after ESRI's, in outline; each rule is this project's own.
 pub fn read(alloc: Global, bytes: &[u8], room: u32) -> Result<Grid, GridError>
     requires room { room ≤ 16000000 }

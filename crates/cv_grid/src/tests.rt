@@ -206,6 +206,7 @@ fn the_first_wrong_token_of_a_header_decides(rt: HostRuntime) -> Result<(), Fail
         (b"nrows 2.0", "BadNumber(6)"),
         (b"ncols nrows 2", "BadNumber(6)"),
         (b"ncols", "BadNumber(5)"),
+        (b"\xEF\xBB\xBFncols", "BadNumber(5)"),
         (b"ncols  \n", "BadNumber(8)"),
         (b"cellsize 0", "BadNumber(9)"),
         (b"cellsize 0.0000004", "BadNumber(9)"),

@@ -1,6 +1,7 @@
 -- The inside of a polygon, by the parity rule of its edges.
 --
--- Source: OGC 06-103r4 for polygons and rings; which borders belong to a polygon is this project's rule.
+-- Source: OGC 06-103r4 for polygons and rings; that left and bottom borders belong
+-- to a polygon, and right and top ones don't, is this project's rule.
 use Rattle.std.specs.Prelude.{ℕ, ◌%◌, Bool, false, if◌then◌else◌, ◌==◌, ◌-ℤ◌, ◌*ℤ◌, int_lt, int_le, List}
 use Rattle.std.specs.Prelude.{[], ◌∷◌, count_by}
 use Rattle.std.specs.List.{flat_map}

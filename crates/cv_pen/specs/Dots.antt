@@ -1,4 +1,6 @@
 -- What a marker covers in a row.
+--
+-- Source: this project's own.
 use Rattle.std.specs.Prelude.{ℕ, ◌≤◌, Bool, not, ◌&&◌, ◌||◌, ℤ, pos, ◌-ℤ◌, int_lt, int_le}
 use Rattle.cv_model.specs.declared.shape.Shape.{Shape}
 use Rattle.cv_model.specs.Positions.{Position, doubled}

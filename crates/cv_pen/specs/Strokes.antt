@@ -1,4 +1,6 @@
 -- What a pen hits in a row: the columns between those that lie before a segment and those that lie behind it.
+--
+-- Source: this project's own.
 use Rattle.std.specs.Prelude.{ℕ, ◌≤◌, Bool, not, ◌&&◌, ◌||◌, ℤ, pos, neg_ℤ, ◌+ℤ◌, ◌-ℤ◌, ◌*ℤ◌, int_lt, int_le, unsigned_abs}
 use Rattle.std.specs.Int.{int_max, int_min}
 use Rattle.cv_model.specs.Positions.{Position}

@@ -1,9 +1,8 @@
 //! The runs of pixels that a pen and a marker hit in a row.
 //!
-//! Contract: a run is exactly the columns whose centres are hit, none where none is, and each call counts
-//! one step.
-//! Definitions: `Strokes` and `Dots` here; `Spans` of `cv_geom`; `Pens`, `Markers` and `Views` of `cv_model`.
-//! No call takes memory, no handle is needed.
+//! Contract: a run is exactly the columns whose centres are hit, none where none is; `stroke_in` and
+//! `marker_in` count one step. Definitions: `Strokes` and `Dots` here; `Spans` of `cv_geom`; `Pens`,
+//! `Markers` and `Views` of `cv_model`. No call takes memory, no handle is needed.
 #![tactic(auto)]
 
 mod between;

@@ -1,5 +1,7 @@
 -- How far the crossing of an edge with a row's height reaches: so many centres of the row lie strictly left
 -- of it.
+--
+-- Source: this project's own form of the parity rule for polygons.
 use Rattle.std.specs.Prelude.{ℕ, zero, suc, ◌+◌, ◌≡◌, ◌<◌, nat_lt, Bool, if◌then◌else◌, pos, ◌≤ℤ◌}
 use Rattle.cv_model.specs.Positions.{Position}
 use Rattle.cv_model.specs.Views.{PixelGrid, centre_of}

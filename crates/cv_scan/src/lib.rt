@@ -1,7 +1,7 @@
 //! The runs of a row's pixels inside a polygon.
 //!
 //! Contract: the spans of a row are exactly the maximal runs of columns whose centres are inside, in
-//! ascending order, and each call counts at most one step for an edge and a row.
+//! ascending order, and `spans_in` counts at most one step for an edge and a row.
 //! Definitions: `Reaches` and `Runs` here; `Spans` of `cv_geom`; `Polygons` and `Views` of `cv_model`. Law:
 //! `edges_cross_the_first`.
 //! `spans` and `spans_in` take memory; no handle is needed.
