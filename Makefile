@@ -3,7 +3,8 @@
 #   make coast        builds it where that is needed, and paints examples/coast into coast.ppm
 #   make first-map    the same for examples/first-map
 #   make examples     the same for all examples, and compares them with what they must be
-#   make test         passes all proofs, edits that must be refused, tests, programs, examples and documents
+#   make test         passes all proofs, edits that must be refused, tests, programs and their ends, examples
+#                     and documents
 
 PROGRAM = crates/canvas/out/canvas
 SOURCES := crates.txt $(shell find crates -name out -prune -o \( -name '*.rt' -o -name '*.antt' \) -print)
