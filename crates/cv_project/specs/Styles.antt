@@ -21,7 +21,7 @@ use Rattle.cv_project.specs.Words.{ramp_word, ramps, style_word, styles}
 
 -- ---- the column of a style
 
--- the column that `joined` names, where `field` is absent; where both are, `field` is missing
+-- the column that `joined` names, where `field` is absent; where both are absent, `field` is missing
 abbrev pub joined_or : TreeNode → Option (List ℕ) → Result Field Refusal
 joined_or node None = Err (Missing (field_path node.path (codes "field")))
 joined_or node (Some name) = Ok (record { joined = true; name = name })
