@@ -5,7 +5,8 @@
 
 ghost use Rattle.std.specs.Prelude.{◌≡◌, ◌+◌, ◌-◌, ◌*◌, ◌≤◌, min, max};
 ghost use Rattle.cv_number.specs.Rounding.{rnd};
-ghost use Rattle.cv_model.specs.Blends.{multiply, screen, hard_light, color_dodge, color_burn, difference, exclusion};
+ghost use Rattle.cv_model.specs.Blends.{multiply, screen, hard_light, color_dodge, color_burn, difference};
+ghost use Rattle.cv_model.specs.Blends.{exclusion};
 
 /// `n / 255` to the nearest whole number, for products of channels.
 pub(crate) fn over_255(n: u32) -> u8

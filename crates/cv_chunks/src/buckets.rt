@@ -1,6 +1,7 @@
 //! The ranges that cover a row, for each row.
 
-ghost use Rattle.std.specs.Prelude.{◌≡◌, ◌<◌, ◌≤◌, ◌^◌, ◌-◌, [], All, length, sum_by, slice_get, Some, IfOk, OnOk, vec_len};
+ghost use Rattle.std.specs.Prelude.{◌≡◌, ◌<◌, ◌≤◌, ◌^◌, ◌-◌, [], All, length, sum_by, slice_get, Some};
+ghost use Rattle.std.specs.Prelude.{IfOk, OnOk, vec_len};
 ghost use Rattle.cv_chunks.specs.Buckets.{IsWithinRows, IsEntered, buckets_of, length_of, numbers_of};
 
 use crate::NoMemory;

@@ -1,6 +1,7 @@
 //! A run of elements that stand side by side in memory and that several lists may hold.
 
-ghost use Rattle.std.specs.Prelude.{◌≡◌, ◌<◌, ◌≤◌, ◌+◌, ◌++◌, ◌^◌, [], true, false, nat_le, length, slice_set, OnOk, OnErr, IfErr, IfOk, insert, remove};
+ghost use Rattle.std.specs.Prelude.{◌≡◌, ◌<◌, ◌≤◌, ◌+◌, ◌++◌, ◌^◌, [], true, false, nat_le, length};
+ghost use Rattle.std.specs.Prelude.{slice_set, OnOk, OnErr, IfErr, IfOk, insert, remove};
 ghost use Rattle.cv_chunks.specs.Clones.{ClonesAreEqual};
 
 use crate::NoMemory;

@@ -1,6 +1,7 @@
 //! A list whose versions share what an edit didn't touch.
 
-ghost use Rattle.std.specs.Prelude.{◌≡◌, ◌<◌, ◌≤◌, ◌+◌, ◌++◌, ◌∷◌, ◌^◌, [], length, slice_get, slice_set, OnOk, OnErr, IfErr, IfOk, insert, remove};
+ghost use Rattle.std.specs.Prelude.{◌≡◌, ◌<◌, ◌≤◌, ◌+◌, ◌++◌, ◌∷◌, ◌^◌, [], length, slice_get, slice_set};
+ghost use Rattle.std.specs.Prelude.{OnOk, OnErr, IfErr, IfOk, insert, remove};
 ghost use Rattle.std.specs.Option.{option_copied};
 ghost use Rattle.cv_chunks.specs.Clones.{ClonesAreEqual};
 ghost use Rattle.cv_chunks.specs.Parts.{IsRunFrom};

@@ -1,6 +1,7 @@
 //! A row of chunks that several lists may hold.
 
-ghost use Rattle.std.specs.Prelude.{◌≡◌, ◌<◌, ◌≤◌, ◌+◌, ◌++◌, ◌^◌, [], true, false, nat_le, length, slice_set, OnOk, OnErr, IfErr, IfOk, insert, remove};
+ghost use Rattle.std.specs.Prelude.{◌≡◌, ◌<◌, ◌≤◌, ◌+◌, ◌++◌, ◌^◌, [], true, false, nat_le, length};
+ghost use Rattle.std.specs.Prelude.{slice_set, OnOk, OnErr, IfErr, IfOk, insert, remove};
 ghost use Rattle.std.specs.List.{flat_map};
 ghost use Rattle.cv_chunks.specs.Clones.{ClonesAreEqual};
 

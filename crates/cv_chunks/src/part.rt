@@ -1,6 +1,8 @@
 //! What a chunk and a group of chunks have in common, and the edits of a row of either.
 
-ghost use Rattle.std.specs.Prelude.{◌≡◌, ◌<◌, ◌≤◌, ◌+◌, ◌-◌, ◌++◌, ◌^◌, ℕ, List, [], Bool, true, false, length, slice_set, slice_get, OnOk, OnErr, IfErr, IfOk, insert, remove, IsSomeAnd};
+ghost use Rattle.std.specs.Prelude.{◌≡◌, ◌<◌, ◌≤◌, ◌+◌, ◌-◌, ◌++◌, ◌^◌, ℕ, List, [], Bool, true, false};
+ghost use Rattle.std.specs.Prelude.{length, slice_set, slice_get, OnOk, OnErr, IfErr, IfOk, insert, remove};
+ghost use Rattle.std.specs.Prelude.{IsSomeAnd};
 ghost use Rattle.std.specs.List.{flat_map};
 ghost use Rattle.cv_chunks.specs.Clones.{ClonesAreEqual};
 ghost use Rattle.cv_chunks.specs.Parts.{IsWithin, IsRunFrom, IsSpot, CutsPart};

@@ -4,7 +4,8 @@ ghost use Rattle.std.specs.List.{prefix_len};
 ghost use Rattle.cv_number.specs.Rounding.{rnd};
 ghost use Rattle.cv_number.specs.Mark.{is_digit};
 ghost use Rattle.cv_number.specs.Spellings.{fixed};
-ghost use Rattle.cv_decimal.specs.Kept.{with_digit, with_places, kept_role, settled, kept_worth, nothing_kept, Goes};
+ghost use Rattle.cv_decimal.specs.Kept.{with_digit, with_places, kept_role, settled, kept_worth};
+ghost use Rattle.cv_decimal.specs.Kept.{nothing_kept, Goes};
 
 use cv_number::{Fixed, Mark, Place, Role};
 

@@ -10,7 +10,7 @@ use Rattle.std.specs.Option.{option_or}
 use Rattle.csv.specs.Records.{Row, fields_of}
 use Rattle.csv.specs.declared.reader.Reader.{Reader}
 use Rattle.cv_model.specs.declared.delimiter.Delimiter.{Delimiter}
-use Rattle.cv_model.specs.declared.feature.Room.{Room}
+use Rattle.cv_model.specs.declared.room.Room.{Room}
 use Rattle.cv_model.specs.Features.{IsFeatureTable}
 use Rattle.cv_dtext.specs.declared.options.TextError.{TextError}
 use Rattle.cv_dtext.specs.declared.options.TextError.TheVariants.{NoHeader, NoGeometryColumn, Uneven, NotUtf8}

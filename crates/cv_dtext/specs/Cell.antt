@@ -2,8 +2,8 @@
 use Rattle.std.specs.Prelude.{ℕ, if◌then◌else◌, List, Option, Some, None, Result, Ok, Err}
 use Rattle.std.specs.List.{list_all}
 use Rattle.cv_model.specs.Geometries.{GeometryLists, vertices_of}
-use Rattle.cv_model.specs.declared.geometry.WktError.{WktError}
-use Rattle.cv_model.specs.declared.feature.Note.{Note}
+use Rattle.cv_model.specs.declared.wkt_error.WktError.{WktError}
+use Rattle.cv_model.specs.declared.note.Note.{Note}
 use Rattle.cv_reading.specs.Space.{is_space}
 use Rattle.cv_wkt.specs.Refusals.{geometry_of}
 use Rattle.cv_dtext.specs.declared.cell.Cell.{Cell}

@@ -1,7 +1,7 @@
 -- What was gathered so far of the records behind a header: what the clauses of private functions cite.
 use Rattle.std.specs.Prelude.{◌≡◌, ℕ, ◌+◌, Bool, true, false, List, ◌∷◌, [], ◌++◌, length, Result, Ok, Err}
 use Rattle.std.specs.Option.{option_to_list}
-use Rattle.cv_model.specs.declared.feature.Room.{Room}
+use Rattle.cv_model.specs.declared.room.Room.{Room}
 use Rattle.cv_model.specs.Features.{FeatureTable}
 use Rattle.cv_dtext.specs.declared.options.TextError.{TextError}
 use Rattle.cv_dtext.specs.declared.options.TextError.TheVariants.{NoHeader, NoGeometryColumn, Uneven, NotUtf8}

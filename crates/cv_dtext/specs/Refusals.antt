@@ -2,7 +2,7 @@
 use Rattle.std.specs.Prelude.{◌≡◌, ◌⊎◌, ℕ, ◌+◌, ◌==◌, nat_lt, Bool, not, ◌||◌, if◌then◌else◌, List, [], ◌∷◌}
 use Rattle.std.specs.Prelude.{◌++◌, length, sum_by, Option, Some, None, Result, Ok, Err}
 use Rattle.std.specs.Option.{option_or, unwrap_or, is_none}
-use Rattle.cv_model.specs.declared.feature.Room.{Room}
+use Rattle.cv_model.specs.declared.room.Room.{Room}
 use Rattle.cv_model.specs.Features.{FeatureTable}
 use Rattle.cv_dtext.specs.declared.options.TextOptions.{TextOptions}
 use Rattle.cv_dtext.specs.declared.options.TextError.{TextError}

@@ -3,7 +3,7 @@ use Rattle.std.specs.Prelude.{ℕ, ◌+◌, List, [], ◌∷◌, ◌++◌, slice
 use Rattle.std.specs.List.{remove, position_from}
 use Rattle.std.specs.Option.{option_to_list}
 use Rattle.cv_model.specs.declared.feature.Feature.{Feature}
-use Rattle.cv_model.specs.declared.feature.Note.{Note}
+use Rattle.cv_model.specs.declared.note.Note.{Note}
 use Rattle.cv_model.specs.Features.{FeatureTable}
 use Rattle.cv_dtext.specs.declared.cell.Cell.{Cell}
 use Rattle.cv_dtext.specs.Records.{Fields}

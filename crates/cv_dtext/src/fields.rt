@@ -1,6 +1,7 @@
 //! The fields of a record.
 
-ghost use Rattle.std.specs.Prelude.{◌≡◌, ◌++◌, ◌≤◌, ◌<◌, ◌-◌, [], length, take, drop, slice_index_or, bytes_eq, IfOk, IfSome, OnOk};
+ghost use Rattle.std.specs.Prelude.{◌≡◌, ◌++◌, ◌≤◌, ◌<◌, ◌-◌, [], length, take, drop, slice_index_or};
+ghost use Rattle.std.specs.Prelude.{bytes_eq, IfOk, IfSome, OnOk};
 ghost use Rattle.csv.specs.Records.{fields_of};
 ghost use Rattle.cv_dtext.specs.Table.{column_of, others};
 

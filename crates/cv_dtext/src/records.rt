@@ -4,7 +4,8 @@ ghost use Rattle.std.specs.Prelude.{◌≡◌, ◌≤◌, Option, List, ℕ, Som
 ghost use Rattle.csv.specs.declared.parser.State.{State};
 ghost use Rattle.cv_model.specs.declared.delimiter.Delimiter.{Delimiter};
 ghost use Rattle.cv_dtext.specs.Records.{delimiter_byte, records_of};
-ghost use Rattle.cv_dtext.specs.Records.{slice_left, Stands, IsNext, IsBetween, IsNextTexts, records_left, bytes_left};
+ghost use Rattle.cv_dtext.specs.Records.{slice_left, Stands, IsNext, IsBetween, IsNextTexts, records_left};
+ghost use Rattle.cv_dtext.specs.Records.{bytes_left};
 
 use crate::options::TextError;
 use csv::{ByteRecord, ErrorKind, Reader, ReaderBuilder, StringRecord};

@@ -3,7 +3,8 @@
 ghost use Rattle.std.specs.Prelude.{◌≡◌, ◌↔◌, ◌+◌, ◌≤◌, ◌<◌, ◌^◌, pos, ◌+ℤ◌, ◌-ℤ◌, ◌*ℤ◌, ◌≤ℤ◌, unsigned_abs};
 ghost use Rattle.cv_model.specs.Positions.{IsCoordinate};
 ghost use Rattle.cv_model.specs.Views.{natural, ceiling, rise, pixel_side, grid_of};
-ghost use Rattle.cv_geom.specs.Views.{is_size, is_spread, kept, view_of, moved, pan, scaled_side, resized, zoom, IsSize, IsNoSize, IsSpread, IsEmpty, LeavesRange, IsZoomPart};
+ghost use Rattle.cv_geom.specs.Views.{is_size, is_spread, kept, view_of, moved, pan, scaled_side, resized};
+ghost use Rattle.cv_geom.specs.Views.{zoom, IsSize, IsNoSize, IsSpread, IsEmpty, LeavesRange, IsZoomPart};
 
 use crate::lengths::{half_span, span};
 use crate::range::kept;

@@ -1,6 +1,7 @@
 //! The decimals of the cells.
 
-ghost use Rattle.std.specs.Prelude.{◌≡◌, ◌≤◌, ◌<◌, ◌*◌, ◌^◌, length, take, drop, IfSome, IfNone, None, true, slice_index, pos};
+ghost use Rattle.std.specs.Prelude.{◌≡◌, ◌≤◌, ◌<◌, ◌*◌, ◌^◌, length, take, drop, IfSome, IfNone, None};
+ghost use Rattle.std.specs.Prelude.{true, slice_index, pos};
 ghost use Rattle.cv_reading.specs.Space.{is_space};
 ghost use Rattle.cv_number.specs.Reader.{decimal_of};
 ghost use Rattle.cv_grid.specs.Scanning.{front_len, IsFront, AreDigits};

@@ -2,7 +2,7 @@
 use Rattle.std.specs.Prelude.{◌≡◌, ℕ, nat_eq, List, map, length, All}
 use Rattle.std.specs.List.{IsDistinct}
 use Rattle.cv_model.specs.declared.feature.Feature.{Feature}
-use Rattle.cv_model.specs.declared.feature.Note.{Note}
+use Rattle.cv_model.specs.declared.note.Note.{Note}
 
 -- the names of the columns, the features in order, and the notes on refused geometries
 pub record FeatureTable : Type 0 where

@@ -2,7 +2,8 @@
 
 ghost use Rattle.std.specs.Prelude.{◌≡◌};
 
-use crate::geometry::{Geometry, WktError};
+use crate::geometry::Geometry;
+use crate::note::Note;
 use crate::sequence::Sequence;
 use crate::text::Text;
 use std::marker::Model;
@@ -19,26 +20,6 @@ pub struct Feature {
     pub geometry: Option<Geometry>,
     /// One text for each column of its layer.
     pub values: Values,
-}
-
-/// A record whose well-known text was refused, so that its feature has no geometry.
-#[derive(Clone, Copy, Debug, PartialEq, Eq)]
-pub struct Note {
-    /// The record's number, which is its feature's id.
-    pub row: u32,
-    /// Why the text is no geometry.
-    pub error: WktError,
-}
-
-/// How much may be read, in all.
-#[derive(Clone, Copy, Debug, PartialEq, Eq)]
-pub struct Room {
-    /// Features.
-    pub features: u32,
-    /// Vertices of their geometries.
-    pub vertices: u32,
-    /// Texts of their attributes.
-    pub values: u32,
 }
 
 /// The features of a layer, seen as the names of its columns, the features in order, and the notes on

@@ -1,6 +1,8 @@
 //! Laws of edits, parts, pictures and colours, each the clause of a call that does nothing.
 
-ghost use Rattle.cv_model.specs.Laws.{UntouchedPartsStay, FrameEditsLeaveParts, UntouchedDepsStay, AbsentMasksShowAll, AbsentJoinsGiveNothing, EmptyPictureIsBackground, OpaqueHidesBackdrop, OpaqueHidesBelow, OverNothingStays};
+ghost use Rattle.cv_model.specs.Laws.{UntouchedPartsStay, FrameEditsLeaveParts, UntouchedDepsStay};
+ghost use Rattle.cv_model.specs.Laws.{AbsentMasksShowAll, AbsentJoinsGiveNothing, EmptyPictureIsBackground};
+ghost use Rattle.cv_model.specs.Laws.{OpaqueHidesBackdrop, OpaqueHidesBelow, OverNothingStays};
 
 /// An edit that touches none of the layers on which a layer depends leaves the parts from which that layer
 /// is painted.

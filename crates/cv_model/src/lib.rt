@@ -17,10 +17,12 @@ mod grid;
 pub mod laws;
 mod layer;
 mod limits;
+mod note;
 mod position;
 mod project;
 mod ramp;
 mod raster;
+mod room;
 mod sequence;
 mod shape;
 mod span;
@@ -28,6 +30,7 @@ mod style;
 mod symbol;
 mod text;
 mod view;
+mod wkt_error;
 
 pub use blend::Blend;
 pub use classes::Classes;
@@ -35,15 +38,17 @@ pub use colour::{Rgb, Rgba};
 pub use delimiter::Delimiter;
 pub use edit::{Edit, EditError};
 pub use extent::Extent;
-pub use feature::{Feature, FeatureList, Note, Room, Values};
-pub use geometry::{Geometry, Line, WktError};
+pub use feature::{Feature, FeatureList, Values};
+pub use geometry::{Geometry, Line};
 pub use grid::{Cell, CellList, Grid};
 pub use layer::{Join, LayerData, LayerFrame, NewLayer, Scales};
 pub use limits::MOST_BYTES;
+pub use note::Note;
 pub use position::{Point, Point2, Polygon, Ring};
 pub use project::{CanvasFile, CanvasList, CanvasSpec, LayerFile, LayerList, ProjectFile, Source};
 pub use ramp::{Ramp, RampKind, Stop, StopList};
 pub use raster::{Image, Picture, Pixels, RgbList, RgbaList};
+pub use room::Room;
 pub use sequence::Sequence;
 pub use shape::Shape;
 pub use span::{Span, Spans};
@@ -51,6 +56,7 @@ pub use style::{Class, ClassList, Field, Range, RangeList, Style};
 pub use symbol::{Marker, Pen, Symbol};
 pub use text::Text;
 pub use view::View;
+pub use wkt_error::WktError;
 
 /// The answer of a call that has got no memory. It is the one answer whose cause contracts leave out, since
 /// no caller can know it.

@@ -1,5 +1,6 @@
 //! Devices in memory that never fail.
-ghost use Rattle.std.specs.Prelude.{◌≡◌, ◌≤◌, ◌+◌, ◌++◌, ◌∷◌, ◌≢◌, [], ℕ, List, true, length, take, option_map, IsTrue, IfOk, OnOk, OnErr, MatchResult, MatchBool};
+ghost use Rattle.std.specs.Prelude.{◌≡◌, ◌≤◌, ◌+◌, ◌++◌, ◌∷◌, ◌≢◌, [], ℕ, List, true, length, take};
+ghost use Rattle.std.specs.Prelude.{option_map, IsTrue, IfOk, OnOk, OnErr, MatchResult, MatchBool};
 ghost use Rattle.cv_outside.specs.Files.{bytes_under, names_of};
 ghost use Rattle.cv_outside.specs.Reads.{SameFiles};
 ghost use Rattle.cv_outside.specs.Writes.{OthersStay};

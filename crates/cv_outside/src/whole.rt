@@ -1,5 +1,6 @@
 //! Whole files and whole texts, over any shelf and sink.
-ghost use Rattle.std.specs.Prelude.{◌≡◌, ◌≤◌, ◌∷◌, ◌++◌, [], ℕ, List, Option, length, IsTrue, IfOk, IfErr, OnOk, OnErr, MatchResult};
+ghost use Rattle.std.specs.Prelude.{◌≡◌, ◌≤◌, ◌∷◌, ◌++◌, [], ℕ, List, Option, length, IsTrue, IfOk, IfErr};
+ghost use Rattle.std.specs.Prelude.{OnOk, OnErr, MatchResult};
 ghost use Rattle.cv_outside.specs.Counts.{Rose};
 ghost use Rattle.cv_outside.specs.Seen.{shelf_seen, sink_seen, ShelfStands, SinkStands};
 ghost use Rattle.cv_outside.specs.Whole.{UnreadCause, IsUnread, UnreadAsks, UnwrittenCause, TakesPart};

@@ -3,7 +3,8 @@
 ghost use Rattle.std.specs.Prelude.{◌≡◌, ◌++◌, Some};
 ghost use Rattle.cv_model.specs.Colours.{laid_on};
 ghost use Rattle.cv_model.specs.Pens.{IsRadius};
-ghost use Rattle.cv_model.specs.Pictures.{hits_rings, hits_lines, laid_where, fill_strokes, pen_strokes, marker_strokes, strokes, strokes_of};
+ghost use Rattle.cv_model.specs.Pictures.{hits_rings, hits_lines, laid_where, fill_strokes, pen_strokes};
+ghost use Rattle.cv_model.specs.Pictures.{marker_strokes, strokes, strokes_of};
 
 use crate::hits::{hits_lines, hits_rings, is_covered, is_marked};
 use crate::sides::half_side;

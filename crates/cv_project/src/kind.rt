@@ -3,7 +3,8 @@
 ghost use Rattle.std.specs.Prelude.{◌≡◌, ◌≤◌, ◌≤ℤ◌, ◌&&◌, nat_le, ℕ, List, Result, IfOk, IfSome, length};
 ghost use Rattle.cv_project.specs.declared.refusal.Refusal.{Refusal};
 ghost use Rattle.cv_project.specs.Answers.{Answers};
-ghost use Rattle.cv_project.specs.Kinds.{whole_of, whole_in, id_of, text_of, name_of, flag_of, word_in, decimal_in, rgb_spelled, rgba_spelled, background_of, colour_of};
+ghost use Rattle.cv_project.specs.Kinds.{whole_of, whole_in, id_of, text_of, name_of, flag_of, word_in};
+ghost use Rattle.cv_project.specs.Kinds.{decimal_in, rgb_spelled, rgba_spelled, background_of, colour_of};
 ghost use Rattle.cv_project.specs.Nodes.{TreeNode};
 ghost use Rattle.cv_project.specs.Seen.{seen};
 

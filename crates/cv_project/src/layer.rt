@@ -5,7 +5,8 @@ ghost use Rattle.std.specs.List.{list_any};
 ghost use Rattle.cv_model.specs.ProjectFiles.{is_grid_source};
 ghost use Rattle.cv_project.specs.Answers.{Answers};
 ghost use Rattle.cv_project.specs.Fields.{no_others};
-ghost use Rattle.cv_project.specs.Layers.{new_id, versioned_scales, layer_names, layer_of, AreLayers, AreLayers-none};
+ghost use Rattle.cv_project.specs.Layers.{new_id, versioned_scales, layer_names, layer_of, AreLayers};
+ghost use Rattle.cv_project.specs.Layers.{AreLayers-none};
 ghost use Rattle.cv_project.specs.Seen.{seen};
 
 use crate::kind::{Flag, Id, Kind, Name, OneOf, Whole};

@@ -5,7 +5,8 @@ ghost use Rattle.std.specs.List.{list_any};
 ghost use Rattle.serde_json.specs.View.{view, members_view};
 ghost use Rattle.cv_project.specs.Answers.{Answers};
 ghost use Rattle.cv_project.specs.Nodes.{field_path, member_path};
-ghost use Rattle.cv_project.specs.Fields.{field, required, optional, with_default, tested, is_object, first_other, no_others};
+ghost use Rattle.cv_project.specs.Fields.{field, required, optional, with_default, tested, is_object};
+ghost use Rattle.cv_project.specs.Fields.{first_other, no_others};
 
 use crate::kind::Kind;
 use crate::path::Path;

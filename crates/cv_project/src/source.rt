@@ -4,7 +4,8 @@ ghost use Rattle.std.specs.Prelude.{◌≡◌, IfOk};
 ghost use Rattle.cv_model.specs.ProjectFiles.{IsSource, IsJoin};
 ghost use Rattle.cv_project.specs.Answers.{Answers};
 ghost use Rattle.cv_project.specs.Seen.{seen};
-ghost use Rattle.cv_project.specs.Sources.{text_source_of, grid_source_of, source_of, join_of, in_order, scales_of};
+ghost use Rattle.cv_project.specs.Sources.{text_source_of, grid_source_of, source_of, join_of, in_order};
+ghost use Rattle.cv_project.specs.Sources.{scales_of};
 
 use crate::kind::{Decimal, Id, Kind, Name, OneOf};
 use crate::node::Node;

@@ -6,7 +6,9 @@ ghost use Rattle.cv_model.specs.ProjectFiles.{IsName, IsRange, IsStyle, is_ramp}
 ghost use Rattle.cv_project.specs.Answers.{Answers};
 ghost use Rattle.cv_project.specs.Fields.{no_others};
 ghost use Rattle.cv_project.specs.Seen.{seen};
-ghost use Rattle.cv_project.specs.Styles.{column_of, names_twice, class_of, range_of, stop_of, ascends, single_of, categorised_of, graduated_of, ramp_of, fits, fitting, style_of};
+ghost use Rattle.cv_project.specs.Styles.{column_of, names_twice, class_of, range_of, stop_of, ascends};
+ghost use Rattle.cv_project.specs.Styles.{single_of, categorised_of, graduated_of, ramp_of, fits, fitting};
+ghost use Rattle.cv_project.specs.Styles.{style_of};
 
 use crate::kind::{AnyText, COORDINATE, Colour, Kind, Name, OneOf};
 use crate::list::{Each, ListOf};

@@ -3,7 +3,8 @@
 ghost use Rattle.std.specs.Prelude.{◌≡◌, ◌+◌, ◌≤◌, ◌≤ℤ◌, ◌<ℤ◌, ℤ, All};
 ghost use Rattle.cv_model.specs.Positions.{IsCoordinate};
 ghost use Rattle.cv_model.specs.Views.{rise};
-ghost use Rattle.cv_model.specs.Ramps.{ramp_of, first_colour, is_at, reaches, channel_between, colour_between, linear, linear_from};
+ghost use Rattle.cv_model.specs.Ramps.{ramp_of, first_colour, is_at, reaches, channel_between};
+ghost use Rattle.cv_model.specs.Ramps.{colour_between, linear, linear_from};
 
 use cv_model::{Cell, Ramp, RampKind, Rgba, Stop};
 

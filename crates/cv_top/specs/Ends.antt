@@ -33,8 +33,8 @@ text_of_end (Missing which) = codes "file missing"
 abbrev pub text_of_error : TextError → List ℕ
 text_of_error text.NoHeader = codes "no header"
 text_of_error text.NoGeometryColumn = codes "no column of geometries"
-text_of_error (text.Uneven row) = codes "another number of fields in record " ++ decimal row
-text_of_error (text.NotUtf8 row) = codes "no UTF-8 in record " ++ decimal row
+text_of_error (text.Uneven number) = codes "another number of fields in record " ++ decimal number
+text_of_error (text.NotUtf8 number) = codes "no UTF-8 in record " ++ decimal number
 text_of_error text.TooMany = codes "too many features, vertices or values"
 text_of_error text.NoMemory = codes "out of memory"
 

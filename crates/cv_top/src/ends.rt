@@ -92,8 +92,10 @@ impl fmt::Display for DataError {
         match error {
             TextError::NoHeader => write!(f, "no header"),
             TextError::NoGeometryColumn => write!(f, "no column of geometries"),
-            TextError::Uneven(row) => write!(f, "another number of fields in record {row}"),
-            TextError::NotUtf8(row) => write!(f, "no UTF-8 in record {row}"),
+            TextError::Uneven(number) => {
+                write!(f, "another number of fields in record {number}")
+            },
+            TextError::NotUtf8(number) => write!(f, "no UTF-8 in record {number}"),
             TextError::TooMany => write!(f, "too many features, vertices or values"),
             TextError::NoMemory => write!(f, "out of memory"),
         }

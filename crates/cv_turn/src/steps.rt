@@ -3,7 +3,8 @@ ghost use Rattle.std.specs.Prelude.{◌≡◌, ◌+◌, ◌<◌, ◌≤◌, [], 
 ghost use Rattle.cv_turn.specs.Pass.{MayAdd};
 ghost use Rattle.cv_turn.specs.Plays.{IsTrueOf};
 ghost use Rattle.cv_turn.specs.Rule.{IsSized, IsSeatOf, IsSameSeat, IsIdle, IsWaiting, IsInTurn};
-ghost use Rattle.cv_turn.specs.View.{drawn, entered, counted, unticketed, planned, kept_part, given_part, joined, looked};
+ghost use Rattle.cv_turn.specs.View.{drawn, entered, counted, unticketed, planned, kept_part, given_part};
+ghost use Rattle.cv_turn.specs.View.{joined, looked};
 ghost use Rattle.cv_turn.specs.Held.{StartsWith};
 
 use crate::held::Held;

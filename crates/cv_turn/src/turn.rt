@@ -1,8 +1,10 @@
 //! The lock: who holds a pass can take the value in turn, hand over numbers, and tell what it has seen.
-ghost use Rattle.std.specs.Prelude.{◌≡◌, ◌+◌, ◌-◌, ◌<◌, ◌≤◌, ◌↔◌, [], ◌++◌, length, take, drop, replicate, Some, None, All, IfOk, IsOkAnd, IsTrue};
+ghost use Rattle.std.specs.Prelude.{◌≡◌, ◌+◌, ◌-◌, ◌<◌, ◌≤◌, ◌↔◌, [], ◌++◌, length, take, drop, replicate};
+ghost use Rattle.std.specs.Prelude.{Some, None, All, IfOk, IsOkAnd, IsTrue};
 ghost use Rattle.cv_turn.specs.Guard.{held_of, IsGuardOf};
 ghost use Rattle.cv_turn.specs.Held.{StartsWith, longer};
-ghost use Rattle.cv_turn.specs.Pass.{HasOwn, IsFirst, IsNoteOf, IsPartOf, MayLeave, after_join, after_turn, without_last};
+ghost use Rattle.cv_turn.specs.Pass.{HasOwn, IsFirst, IsNoteOf, IsPartOf, MayLeave, after_join, after_turn};
+ghost use Rattle.cv_turn.specs.Pass.{without_last};
 
 use crate::NoMemory;
 use crate::guard::Guard;

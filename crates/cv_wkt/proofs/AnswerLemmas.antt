@@ -5,7 +5,7 @@ use Rattle.std.proofs.Common.{subst, ◌∙◌, arith}
 use Rattle.std.proofs.lemmas.Bool.{cases_lt}
 use Rattle.std.proofs.lemmas.Option.{slice_get_past}
 use Rattle.cv_model.specs.Geometries.{GeometryLists}
-use Rattle.cv_model.specs.declared.geometry.WktError.{WktError}
+use Rattle.cv_model.specs.declared.wkt_error.WktError.{WktError}
 use Rattle.cv_reading.specs.Machines.{after}
 use Rattle.cv_reading.specs.Readings.{IsFirstWrong}
 use Rattle.cv_reading.specs.Watches.{Stop, StopAt, IsUnlimited, IsWatched, watched}

@@ -6,7 +6,7 @@ use Rattle.std.proofs.lemmas.List.{drop-drop}
 use Rattle.std.proofs.lemmas.List.Sums.{prefix_len-le-length}
 use Rattle.std.specs.List.{prefix_len}
 use Rattle.cv_model.specs.Geometries.{GeometryLists}
-use Rattle.cv_model.specs.declared.geometry.WktError.{WktError}
+use Rattle.cv_model.specs.declared.wkt_error.WktError.{WktError}
 use Rattle.cv_reading.specs.Tokens.{ByteKind, White, Single, Word, Token, is_word, cut}
 use Rattle.cv_reading.specs.Watches.{Stop, StopAt, stop_one_further, watched, watched_step}
 use Rattle.cv_reading.proofs.TokenLemmas.{cut_white, cut_single, cut_word}

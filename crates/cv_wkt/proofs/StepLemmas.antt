@@ -10,7 +10,7 @@ use Rattle.cv_wkt.specs.declared.place.Cause.{Cause}
 use Rattle.cv_wkt.specs.declared.place.Cause.TheVariants.{Full}
 use Rattle.cv_wkt.specs.Grammar.{many}
 use Rattle.std.proofs.Common.{Ok, Err, ◌∙◌}
-use Rattle.cv_model.specs.declared.geometry.WktError.{WktError}
+use Rattle.cv_model.specs.declared.wkt_error.WktError.{WktError}
 use Rattle.cv_reading.specs.Watches.{watched_end}
 use Rattle.cv_number.specs.declared.fixed.Fixed.TheVariants.{Value}
 use Rattle.cv_wkt.specs.declared.place.Sort.TheVariants.{Geometry}

@@ -3,7 +3,7 @@ use Rattle.std.specs.Prelude.{◌≡◌, ℕ, suc, ◌+◌, ◌<◌, ◌≤◌, 
 use Rattle.std.specs.Prelude.{List, [], ◌∷◌, ◌++◌, map, fold, length, take, drop, slice_get, count_by, codes}
 use Rattle.std.specs.Prelude.{Option, Some, None, option_and_then}
 use Rattle.cv_model.specs.Geometries.{GeometryLists}
-use Rattle.cv_model.specs.declared.geometry.WktError.{WktError}
+use Rattle.cv_model.specs.declared.wkt_error.WktError.{WktError}
 use Rattle.cv_reading.specs.Tokens.{Token}
 use Rattle.cv_reading.specs.Readings.{Begins, IsFirstWrong}
 use Rattle.cv_number.specs.declared.fixed.Fixed.TheVariants.{High, Low}

@@ -2,7 +2,7 @@
 use Rattle.std.specs.Prelude.{ℕ, zero, suc, nat_le, Bool, true, false, if◌then◌else◌, List, [], ◌∷◌, map}
 use Rattle.std.specs.Prelude.{length, count_by, Option, Some, None, Result, Ok, Err}
 use Rattle.cv_model.specs.Geometries.{GeometryLists}
-use Rattle.cv_model.specs.declared.geometry.WktError.{WktError}
+use Rattle.cv_model.specs.declared.wkt_error.WktError.{WktError}
 use Rattle.cv_reading.specs.Tokens.{Token}
 use Rattle.cv_reading.specs.Watches.{Watch, Stop, StopAt, watched}
 use Rattle.cv_number.specs.declared.fixed.Fixed.TheVariants.{Value, High, Low}

@@ -1,7 +1,8 @@
 //! The kinds of tokens.
 
 ghost use Rattle.std.specs.Prelude.{◌≡◌, map};
-ghost use Rattle.cv_wkt.specs.Kind.{is_sign, is_tag, tag_in, named, found_in, geometry_kind, keyword_kind, word_kind, kind_of, IsKindInRange};
+ghost use Rattle.cv_wkt.specs.Kind.{is_sign, is_tag, tag_in, named, found_in, geometry_kind, keyword_kind};
+ghost use Rattle.cv_wkt.specs.Kind.{word_kind, kind_of, IsKindInRange};
 ghost use Rattle.std.specs.Char.{is_ascii_digit};
 ghost use Rattle.std.specs.List.{list_all};
 

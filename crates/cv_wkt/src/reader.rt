@@ -2,7 +2,8 @@
 
 ghost use Rattle.std.specs.Prelude.{◌≡◌, ◌<◌, ◌≢◌, Bool, true, None, Ok, Err, OnOk, IfOk, IfErr};
 ghost use Rattle.cv_model.specs.Positions.{IsCoordinate};
-ghost use Rattle.cv_wkt.specs.Reader.{State, start, IsState, Stepped, opened, left_out, with_x, with_y, behind_item, stepped};
+ghost use Rattle.cv_wkt.specs.Reader.{State, start, IsState, Stepped, opened, left_out, with_x, with_y};
+ghost use Rattle.cv_wkt.specs.Reader.{behind_item, stepped};
 ghost use Rattle.cv_wkt.specs.Kind.{IsKindInRange};
 ghost use Rattle.cv_wkt.specs.Refusals.{limit_of, if_deep, if_full, taken, finished};
 

@@ -1,6 +1,6 @@
 -- What the loop answers is the one answer to the text.
 use Rattle.cv_wkt.specs.Refusals.{geometry_of}
-use Rattle.cv_model.specs.declared.geometry.WktError.TheVariants.{NoMemory}
+use Rattle.cv_model.specs.declared.wkt_error.WktError.TheVariants.{NoMemory}
 use Rattle.cv_reading.proofs.ReadingLemmas.{exact_of}
 use Rattle.cv_wkt.proofs.AnswerLemmas.{found_of, only_of, fault_of}
 use Rattle.cv_wkt.proofs.read.Goals as goal
