@@ -154,7 +154,7 @@ fn values_are_the_cells_from_the_north_west(rt: HostRuntime) -> Result<(), Fail>
 
 #[test]
 fn the_first_wrong_token_of_a_header_decides(rt: HostRuntime) -> Result<(), Fail> {
-    let rows: [(&[u8], &str); 40] = [
+    let rows: [(&[u8], &str); 41] = [
         (b"", "MissingWord(Ncols)"),
         (b" \n\t", "MissingWord(Ncols)"),
         (b"1 2", "MissingWord(Ncols)"),
