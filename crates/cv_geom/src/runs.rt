@@ -100,17 +100,12 @@ impl Runs {
     pub fn unite(&mut self) -> Result<(), NoMemory>
         ensures { OnOk result (Unites self.old self.new) }
     {
-        self.runs.sort_unstable_by_key(|run| place(*run));
+        self.runs.sort_unstable_by_key(|run| (run.row, run.from));
         self.spare.clear();
         put_united(&self.runs, &mut self.spare)?;
         swap(&mut self.runs, &mut self.spare);
         Ok(())
     }
-}
-
-/// The place of a run's first pixel in reading order.
-fn place(run: Run) -> u64 {
-    (u64::from(run.row) << 32) + u64::from(run.from)
 }
 
 /// Puts runs in reading order into an empty list, those that overlap or touch in a row as one.
