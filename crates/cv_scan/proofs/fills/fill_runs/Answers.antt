@@ -1,4 +1,3 @@
-use Rattle.std.proofs.Common.{sym}
 use Rattle.std.specs.List.{list_any}
 use Rattle.cv_model.specs.Polygons.{is_inside}
 use Rattle.cv_model.specs.Views.{centre_of}

@@ -1,4 +1,4 @@
-use Rattle.std.proofs.Common.{◌≡◌, ◌∙◌, ap, ℕ, suc, ◌+◌, ◌-◌, ◌*◌, ◌<◌, ◌++◌, Bool, length, arith}
+use Rattle.std.proofs.Common.{◌≡◌, ◌∙◌, ap, ℕ, suc, ◌+◌, ◌-◌, ◌*◌, ◌<◌, ◌++◌, length, arith}
 use Rattle.std.specs.List.{flat_map}
 use Rattle.cv_model.specs.Polygons.{edges, is_inside}
 use Rattle.cv_model.specs.Views.{centre_of}

@@ -1,4 +1,4 @@
-use Rattle.std.proofs.Common.{ℕ, ◌≤◌, ◌+◌, ◌-◌, ◌*◌, nat_lt, ◌&&◌, length}
+use Rattle.std.proofs.Common.{◌≤◌, ◌+◌, ◌-◌, ◌*◌, nat_lt, ◌&&◌, length}
 use Rattle.std.specs.List.{flat_map}
 use Rattle.cv_model.specs.Polygons.{edges, is_inside}
 use Rattle.cv_model.specs.Views.{centre_of}

@@ -1,4 +1,4 @@
-use Rattle.std.proofs.Common.{ℕ, ◌≤◌, ◌+◌, ◌*◌, drop, length}
+use Rattle.std.proofs.Common.{◌≤◌, ◌+◌, ◌*◌, drop, length}
 use Rattle.std.specs.List.{list_any}
 use Rattle.cv_model.specs.Polygons.{is_inside}
 use Rattle.cv_model.specs.Views.{centre_of}
