@@ -14,3 +14,6 @@ pub mod Layers
 pub mod Canvases
 pub mod Projects
 pub mod Errors
+pub mod Trees
+pub mod Kept
+pub mod Written

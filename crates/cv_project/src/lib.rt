@@ -1,9 +1,9 @@
-//! The project file, read.
+//! The project file, read and written.
 //!
 //! Contract: a file is read exactly where its JSON tree says it, and else the refusal that the tables name is
-//! answered. Definitions: `Fields`, `Lists` and `Kinds`, by which the tables of `Symbols` to `Projects` are
-//! written, one line a field.
-//! Memory is taken for the tree and for what is read; no handle is needed.
+//! answered; what is written is read as the same file. Definitions: `Fields`, `Lists` and `Kinds`, by which the
+//! tables of `Symbols` to `Projects` are written, one line a field; `Trees`, what is written, likewise.
+//! Memory is taken for the tree and for what is read or written; no handle is needed.
 #![tactic(auto)]
 
 ghost use Rattle.std.specs.Prelude.{◌≡◌, ◌≢◌, ◌↔◌, Ok, Err, IfOk, List, ℕ};
@@ -11,6 +11,9 @@ ghost use Rattle.serde_json.specs.Data.{Data};
 ghost use Rattle.cv_model.specs.ProjectFiles.{FileParts, IsInForm};
 ghost use Rattle.cv_project.specs.Errors.{answered};
 ghost use Rattle.cv_project.specs.Projects.{IsTree, IsNoTree, tree_project};
+ghost use Rattle.cv_project.specs.Trees.{file_tree};
+ghost use Rattle.cv_project.specs.Written.{IsReadAs, TreesAreRead};
+ghost use Rattle.serde_json.specs.Written.{compact_text};
 
 mod canvas;
 mod error;
@@ -18,21 +21,24 @@ mod kind;
 mod layer;
 mod list;
 mod node;
+mod parts;
 mod path;
 mod project;
 mod refusal;
 mod source;
 mod style;
 mod symbol;
+mod tree;
 mod words;
 
-use cv_model::ProjectFile;
+use cv_model::{NoMemory, ProjectFile};
 pub use error::ProjectError;
 use kind::Kind;
 use node::Node;
 use project::ProjectOf;
 use serde_json::Value;
 use std::alloc::Global;
+use tree::Part;
 
 /// The project of a file, or why it is none.
 ///
@@ -62,6 +68,26 @@ pub fn read(alloc: Global, bytes: &[u8]) -> Result<ProjectFile, ProjectError>
         Err(refusal) => Err(refusal.error()),
     }
 }
+
+/// The bytes of a project file in form: compact JSON of version 2, with each field, also where it has its
+/// default. A field without a default that is absent is left out, and so is a bound of scales.
+pub fn write(alloc: Global, file: &ProjectFile) -> Result<Vec<u8>, NoMemory>
+    requires { IsInForm file.now }
+    // The tree that stands for the file, without white space.
+    ensures bytes { IfOk result (λ b. b.items ≡ compact_text (file_tree file.now)) }
+    // What is written is read as the same file.
+    ensures read { IfOk result (λ b. IsReadAs b.items file.now) }
+{
+    match file.tree(alloc) {
+        Ok(value) => value.to_vec(alloc),
+        Err(error) => Err(error),
+    }
+}
+
+/// What stands for a file in form is read as that file.
+pub fn trees_are_read()
+    ensures { TreesAreRead }
+{}
 
 #[cfg(test)]
 mod tests;

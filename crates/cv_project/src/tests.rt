@@ -1,6 +1,6 @@
 //! Files worked by hand: the refusals at each level, and whole files.
 
-use crate::{ProjectError, read};
+use crate::{ProjectError, read, write};
 use std::alloc::Global;
 use std::test::Fail;
 
@@ -393,5 +393,112 @@ fn a_file_has_its_parts(rt: HostRuntime) -> Result<(), Fail> {
     assert_eq!(rt; file.layers()[0].opacity, 255);
     assert_eq!(rt; file.layers()[0].name.as_str(), "top");
     assert!(rt; !file.layers()[2].visible);
+    Ok(())
+}
+
+/// What is written of the file that a text gives.
+fn rewritten(alloc: Global, text: &str) -> Result<String, Fail> {
+    let Ok(file) = read(alloc, text.as_bytes()) else {
+        return Err(Fail::from("refused"));
+    };
+    let bytes = write(alloc, &file)?;
+    let Ok(text) = std::str::from_utf8(bytes.as_slice()) else {
+        return Err(Fail::from("no text"));
+    };
+    let copy = String::from_str(alloc, text)?;
+    Ok(copy)
+}
+
+/// Four layers, of each kind of style.
+const REAL: &str = "{\"version\":1,\"background\":\"ffffff\",
+ \"canvases\":[{\"width\":800,\"height\":600,\"extent\":[\"0\",\"0\",\"800\",\"600\"]}],
+ \"layers\":[
+ {\"id\":40,\"name\":\"towns\",
+  \"source\":{\"kind\":\"text\",\"file\":\"towns.csv\",\"delimiter\":\"semicolon\",\"geometry\":\"geom\"},
+  \"style\":{\"kind\":\"graduated\",\"field\":\"pop\",\"classes\":[
+   {\"lower\":\"0\",\"upper\":\"1000\",
+    \"symbol\":{\"marker\":{\"shape\":\"square\",\"colour\":\"000000\",\"size\":3}}},
+   {\"lower\":\"1000\",\"upper\":\"10000\",
+    \"symbol\":{\"marker\":{\"shape\":\"circle\",\"colour\":\"ff0000\",\"size\":9}}}]}},
+ {\"id\":30,\"name\":\"roads\",\"source\":{\"kind\":\"text\",\"file\":\"roads.csv\"},
+  \"style\":{\"kind\":\"single\",\"symbol\":{\"pen\":{\"colour\":\"000000\",\"width\":3}}}},
+ {\"id\":20,\"name\":\"lakes\",\"source\":{\"kind\":\"text\",\"file\":\"lakes.csv\"},\"opacity\":128,
+  \"style\":{\"kind\":\"categorised\",\"field\":\"kind\",\"classes\":[
+   {\"value\":\"deep\",\"symbol\":{\"fill\":\"0000ff\"}},
+   {\"value\":\"shallow\",\"symbol\":{\"fill\":\"80c0ff\"}}]}},
+ {\"id\":10,\"name\":\"heights\",\"source\":{\"kind\":\"grid\",\"file\":\"dem.asc\"},
+  \"style\":{\"kind\":\"ramp\",\"ramp\":\"linear\",\"stops\":[
+   {\"value\":\"100\",\"colour\":\"204060\"},{\"value\":\"300\",\"colour\":\"60a0e0\"}]}}]}";
+
+/// The same as it is written.
+const REAL_WRITTEN: &str = "{\"background\":\"ffffff\",\
+\"canvases\":[{\"cache\":67108864,\"extent\":[\"0\",\"0\",\"800\",\"600\"],\"height\":600,\"width\":800}],\
+\"layers\":[\
+{\"blend\":\"normal\",\"id\":40,\"name\":\"towns\",\"opacity\":255,\
+\"source\":{\"delimiter\":\"semicolon\",\"file\":\"towns.csv\",\"geometry\":\"geom\",\"kind\":\"text\"},\
+\"style\":{\"classes\":[\
+{\"lower\":\"0\",\"symbol\":{\"marker\":{\"colour\":\"000000ff\",\"shape\":\"square\",\"size\":3}},\"upper\":\"1000\"},\
+{\"lower\":\"1000\",\"symbol\":{\"marker\":{\"colour\":\"ff0000ff\",\"shape\":\"circle\",\"size\":9}},\
+\"upper\":\"10000\"}],\"field\":\"pop\",\"kind\":\"graduated\"},\"visible\":true},\
+{\"blend\":\"normal\",\"id\":30,\"name\":\"roads\",\"opacity\":255,\
+\"source\":{\"delimiter\":\"comma\",\"file\":\"roads.csv\",\"geometry\":\"wkt\",\"kind\":\"text\"},\
+\"style\":{\"kind\":\"single\",\"symbol\":{\"pen\":{\"colour\":\"000000ff\",\"width\":3}}},\"visible\":true},\
+{\"blend\":\"normal\",\"id\":20,\"name\":\"lakes\",\"opacity\":128,\
+\"source\":{\"delimiter\":\"comma\",\"file\":\"lakes.csv\",\"geometry\":\"wkt\",\"kind\":\"text\"},\
+\"style\":{\"classes\":[{\"symbol\":{\"fill\":\"0000ffff\"},\"value\":\"deep\"},\
+{\"symbol\":{\"fill\":\"80c0ffff\"},\"value\":\"shallow\"}],\"field\":\"kind\",\"kind\":\"categorised\"},\
+\"visible\":true},\
+{\"blend\":\"normal\",\"id\":10,\"name\":\"heights\",\"opacity\":255,\
+\"source\":{\"file\":\"dem.asc\",\"kind\":\"grid\"},\
+\"style\":{\"kind\":\"ramp\",\"ramp\":\"linear\",\
+\"stops\":[{\"colour\":\"204060ff\",\"value\":\"100\"},{\"colour\":\"60a0e0ff\",\"value\":\"300\"}]},\
+\"visible\":true}],\"version\":2}";
+
+/// Three layers as they are written, of which the first has these scales.
+fn two_written(alloc: Global, scales: &str) -> Result<String, Fail> {
+    let text = format!(in alloc;
+        "{{\"background\":\"ffffff\",\
+\"canvases\":[{{\"cache\":1024,\"extent\":[\"0\",\"0\",\"4\",\"4\"],\"height\":4,\"width\":4}}],\
+\"layers\":[\
+{{\"blend\":\"multiply\",\"id\":2,\"name\":\"top\",\"opacity\":255,{scales}\
+\"source\":{{\"delimiter\":\"comma\",\"file\":\"top.csv\",\"geometry\":\"wkt\",\"kind\":\"text\"}},\
+\"style\":{{\"kind\":\"single\",\"symbol\":{{\"fill\":\"646464ff\"}}}},\"visible\":true}},\
+{{\"blend\":\"normal\",\"id\":1,\"mask\":3,\"name\":\"base\",\"opacity\":255,\
+\"source\":{{\"delimiter\":\"comma\",\"file\":\"base.csv\",\"geometry\":\"wkt\",\"kind\":\"text\"}},\
+\"style\":{{\"kind\":\"single\",\"symbol\":{{\"fill\":\"c8c8c8ff\"}}}},\"visible\":true}},\
+{{\"blend\":\"normal\",\"id\":3,\"name\":\"mask\",\"opacity\":255,\
+\"source\":{{\"delimiter\":\"comma\",\"file\":\"mask.csv\",\"geometry\":\"wkt\",\"kind\":\"text\"}},\
+\"style\":{{\"kind\":\"single\",\"symbol\":{{}}}},\"visible\":false}}],\"version\":2}}"
+    )?;
+    Ok(text)
+}
+
+#[test]
+fn what_is_written_is_read_and_written_again(rt: HostRuntime) -> Result<(), Fail> {
+    let alloc = rt.alloc();
+    let plain = two(alloc, "1", "")?;
+    let plain_written = two_written(alloc, "")?;
+    let scaled = two(
+        alloc,
+        "2",
+        ",\"join\":null,\"scales\":{\"greatest\":\"0.750\",\"least\":null}",
+    )?;
+    let scaled_written = two_written(alloc, "\"scales\":{\"greatest\":\"0.75\"},")?;
+    let table = [
+        (
+            "{\"version\":1,\"background\":\"102030\",\"layers\":[],
+ \"canvases\":[{\"width\":2,\"height\":1,\"extent\":[\"0\",\"0\",\"2\",\"1\"]}]}",
+            "{\"background\":\"102030\",\
+\"canvases\":[{\"cache\":67108864,\"extent\":[\"0\",\"0\",\"2\",\"1\"],\"height\":1,\"width\":2}],\
+\"layers\":[],\"version\":2}",
+        ),
+        (plain.as_str(), plain_written.as_str()),
+        (scaled.as_str(), scaled_written.as_str()),
+        (REAL, REAL_WRITTEN),
+    ];
+    for (text, written) in table {
+        assert_eq!(rt; rewritten(alloc, text)?.as_str(), written);
+        assert_eq!(rt; rewritten(alloc, written)?.as_str(), written);
+    }
     Ok(())
 }
