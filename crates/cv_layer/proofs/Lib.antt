@@ -1,0 +1,3 @@
+-- Lemmas about the definitions of layers.
+pub mod BoxLemmas
+pub mod TableLemmas

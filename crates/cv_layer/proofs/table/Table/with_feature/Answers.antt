@@ -1,0 +1,20 @@
+use Rattle.cv_layer.proofs.TableLemmas.{table_insert}
+use Rattle.cv_layer.proofs.table.Table.with_feature.Goals as goal
+
+pub with_rows-requires : goal.with_rows-requires
+with_rows-requires c =
+    let fresh = rw (← c.self.view_is, ← c.in_ok-row.ensures) at c.requires.fresh in
+    let even = rw (← c.self.view_is, ← c.in_ok-row.ensures) at c.requires.even in
+    rw (
+      ← c.self.view_is,
+      c.in-Ok.ensures.ok,
+      c.in_ok-rows.ensures,
+      c.in_ok-vertices-2.ensures,
+      c.in_ok-vertices.ensures,
+      c.in_ok-values.ensures,
+      c.values.ensures,
+    )
+    (table_insert (record { columns = c.self.inside.columns; features = c.self.inside.rows })
+    c.ascends_with-ascending.result c.self.inside.ascending c.self.inside.vertices c.self.inside.values c.args.at
+    c.in_ok-row.row c.self.invariant fresh even
+    (λ e. rw (← c.self.view_is, c.id.ensures) at (c.ascends_with-ascending.ensures e)))

@@ -1,0 +1,40 @@
+use Rattle.std.proofs.Common.{◌∙◌, ap, sym, set, length, arith}
+use Rattle.std.proofs.lemmas.List.{length-set}
+use Rattle.std.proofs.lemmas.Option.{slice_get_within}
+use Rattle.cv_model.specs.declared.feature.Feature.{Feature}
+use Rattle.cv_layer.proofs.TableLemmas.{same_found, changed, even_at}
+use Rattle.cv_layer.proofs.table.Table.with_value.Goals as goal
+
+pub with_value-requires : goal.with_value-requires
+with_value-requires c =
+    let column = rw (← c.self.view_is) at c.requires.column in
+    omega (
+      arith,
+      column,
+      even_at (record { columns = c.self.inside.columns; features = c.self.inside.rows })
+          c.self.inside.ascending c.self.inside.vertices c.self.inside.values c.args.at c.in-Some.row.now
+          c.self.invariant (sym c.in-Some.ensures),
+    )
+
+pub with_row-requires-clause-place : goal.with_row-requires-clause-place
+with_row-requires-clause-place c =
+    rw (← c.self.view_is) (slice_get_within c.self.inside.rows c.args.at c.in-Some.row.now (sym
+    c.in-Some.ensures))
+
+pub with_row-requires-clause-alike : goal.with_row-requires-clause-alike
+with_row-requires-clause-alike c =
+    rw (← c.self.view_is, c.in_ok-with_value.ensures)
+    (λ old at. let e = same_found c.self.inside.rows c.args.at c.in-Some.row.now old (sym c.in-Some.ensures) at in (
+      ap (λ (f : Feature). f.id) e,
+      ap (λ (f : Feature). length f.values) e
+          ∙ sym (length-set c.in-Some.row.now.values c.args.column c.args.value.now),
+    ))
+
+pub returns : goal.returns
+returns c =
+    let place = rw (← c.self.view_is) at c.requires.feature in
+    let e = changed c.args.id (λ f. record f { values = (set f.values c.args.column c.args.value.now) })
+    (record { columns = c.self.inside.columns; features = c.self.inside.rows }) c.self.inside.ascending
+    c.self.inside.vertices c.self.inside.values c.args.at c.in-Some.row.now c.in_ok-with_value.field-0
+    c.self.invariant place (sym c.in-Some.ensures) c.in_ok-with_value.ensures in
+    rw (← c.self.view_is, e) (rw (← c.self.view_is) at c.with_row.ensures)
