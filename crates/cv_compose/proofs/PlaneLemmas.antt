@@ -1,0 +1,34 @@
+-- Planes that are merged from the left.
+use Rattle.std.proofs.Common.{◌≡◌, ℕ, ◌+◌, ◌<◌, List, ◌∷◌, [], ◌++◌, length, get_or, set, take, drop, arith, ap, sym}
+use Rattle.std.proofs.Common.{◌∙◌, refl, append_assoc, drop-cons, add-one}
+use Rattle.std.proofs.lemmas.List.{take_more_set, drop-set-lt}
+use Rattle.cv_compose.specs.Planes.{merged_plane}
+
+-- what lies from i on begins with the item at i
+pub drop_more : {A : Type 0} (xs : List A) (i : ℕ) (d : A) → i < length xs → drop i xs ≡ get_or xs i d ∷ drop (i + 1) xs
+drop_more xs i d within = drop-cons xs i d within ∙ ap (λ n. get_or xs i d ∷ drop n xs) (sym (add-one i))
+
+-- the channels from i on, merged, begin with that at i
+merged_more : (f : ℕ → ℕ → ℕ → ℕ) (below source alpha : List ℕ) (i : ℕ) → i < length below
+    → i < length source → i < length alpha
+    → merged_plane f (drop i below) (drop i source) (drop i alpha)
+    ≡ f (get_or alpha i 0) (get_or below i 0) (get_or source i 0)
+    ∷ merged_plane f (drop (i + 1) below) (drop (i + 1) source) (drop (i + 1) alpha)
+merged_more f below source alpha i b s a =
+    rw (drop_more below i 0 b, drop_more source i 0 s, drop_more alpha i 0 a) refl
+
+-- the channels up to i are merged and those from i on aren't: one more merged gives the same in the end
+pub merged_plane_step : (f : ℕ → ℕ → ℕ → ℕ) (below source alpha : List ℕ) (i v : ℕ) → i < length below
+    → length source ≡ length below → length alpha ≡ length below
+    → v ≡ f (get_or alpha i 0) (get_or below i 0) (get_or source i 0)
+    → take (i + 1) (set below i v) ++ merged_plane f (drop (i + 1) (set below i v)) (drop (i + 1) source) (drop (i + 1) alpha)
+    ≡ take i below ++ merged_plane f (drop i below) (drop i source) (drop i alpha)
+merged_plane_step f below source alpha i v within sources alphas is =
+    let rest = merged_plane f (drop (i + 1) below) (drop (i + 1) source) (drop (i + 1) alpha) in
+    ap (λ xs. xs ++ merged_plane f (drop (i + 1) (set below i v)) (drop (i + 1) source) (drop (i + 1) alpha))
+        (take_more_set below i v within)
+    ∙ ap (λ xs. (take i below ++ v ∷ []) ++ merged_plane f xs (drop (i + 1) source) (drop (i + 1) alpha))
+        (drop-set-lt (i + 1) below i v (omega arith))
+    ∙ append_assoc (take i below) (v ∷ []) rest
+    ∙ ap (λ x. take i below ++ x ∷ rest) is
+    ∙ ap (λ xs. take i below ++ xs) (sym (merged_more f below source alpha i within (omega arith) (omega arith)))

@@ -1,0 +1,2 @@
+-- Composition by planes.
+pub mod Planes

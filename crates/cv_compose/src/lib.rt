@@ -1,0 +1,9 @@
+//! Composition: the images of a picture's layers, merged in order onto its background.
+//!
+//! Contract: the picture is the composition's by the definition, at every pixel, with the slots that are there.
+//! Definitions: `Paintings` and `Blends` of `cv_model`; `Planes`. Takes memory for the picture; no handle.
+#![tactic(auto)]
+
+mod channels;
+mod modes;
+mod planes;
