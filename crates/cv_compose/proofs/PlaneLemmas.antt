@@ -1,8 +1,12 @@
 -- Planes that are merged from the left.
 use Rattle.std.proofs.Common.{◌≡◌, ℕ, ◌+◌, ◌<◌, List, ◌∷◌, [], ◌++◌, length, get_or, set, take, drop, arith, ap, sym}
 use Rattle.std.proofs.Common.{◌∙◌, refl, append_assoc, drop-cons, add-one}
-use Rattle.std.proofs.lemmas.List.{take_more_set, drop-set-lt}
-use Rattle.cv_compose.specs.Planes.{merged_plane}
+use Rattle.std.proofs.Common.{map}
+use Rattle.std.proofs.lemmas.List.{take_more, take_more_set, drop-set-lt, map-append}
+use Rattle.std.proofs.lemmas.Grind.{common_steps}
+use Rattle.cv_model.specs.declared.blend.Blend.{Blend}
+use Rattle.cv_model.specs.Blends.{channel_merged}
+use Rattle.cv_compose.specs.Planes.{merged_plane, blended_plane}
 
 -- what lies from i on begins with the item at i
 pub drop_more : {A : Type 0} (xs : List A) (i : ℕ) (d : A) → i < length xs → drop i xs ≡ get_or xs i d ∷ drop (i + 1) xs
@@ -32,3 +36,28 @@ merged_plane_step f below source alpha i v within sources alphas is =
     ∙ append_assoc (take i below) (v ∷ []) rest
     ∙ ap (λ x. take i below ++ x ∷ rest) is
     ∙ ap (λ xs. take i below ++ xs) (sym (merged_more f below source alpha i within (omega arith) (omega arith)))
+
+-- items that are written from the left, each seen as the one at its place of another list, are so up to the next
+pub seen_step : {A B C : Type 0} (f : A → C) (g : B → C) (xs : List A) (ys : List B) (i : ℕ) (v : A) (d : B)
+    → i < length xs → i < length ys → map f (take i xs) ≡ map g (take i ys) → f v ≡ g (get_or ys i d)
+    → map f (take (i + 1) (set xs i v)) ≡ map g (take (i + 1) ys)
+seen_step f g xs ys i v d x y before here =
+    ap (map f) (take_more_set xs i v x) ∙ map-append f (take i xs) (v ∷ [])
+    ∙ ap (λ front. front ++ f v ∷ []) before ∙ ap (λ z. map g (take i ys) ++ z ∷ []) here
+    ∙ sym (map-append g (take i ys) (get_or ys i d ∷ [])) ∙ ap (map g) (sym (take_more ys i d y))
+
+-- the channels up to i are blended and those from i on aren't: one more blended gives the same in the end
+pub blended_plane_step : (mode : Blend) (below source : List ℕ) (i v : ℕ) → i < length source
+    → length below ≡ length source → v ≡ channel_merged mode 255 (get_or below i 0) (get_or source i 0)
+    → take (i + 1) (set source i v) ++ blended_plane mode (drop (i + 1) below) (drop (i + 1) (set source i v))
+    ≡ take i source ++ blended_plane mode (drop i below) (drop i source)
+blended_plane_step mode below source i v within lengths is =
+    let rest = blended_plane mode (drop (i + 1) below) (drop (i + 1) source) in
+    let more : blended_plane mode (drop i below) (drop i source)
+        ≡ channel_merged mode 255 (get_or below i 0) (get_or source i 0) ∷ rest =
+        rw (drop_more below i 0 (omega arith), drop_more source i 0 within) refl in
+    ap (λ xs. xs ++ blended_plane mode (drop (i + 1) below) (drop (i + 1) (set source i v))) (take_more_set source i v within)
+    ∙ ap (λ xs. (take i source ++ v ∷ []) ++ blended_plane mode (drop (i + 1) below) xs)
+        (drop-set-lt (i + 1) source i v (omega arith))
+    ∙ append_assoc (take i source) (v ∷ []) rest ∙ ap (λ x. take i source ++ x ∷ rest) is
+    ∙ ap (λ xs. take i source ++ xs) (sym more)

@@ -7,3 +7,4 @@
 mod channels;
 mod modes;
 mod planes;
+mod tables;
