@@ -5,7 +5,8 @@ use Rattle.std.proofs.Common.{map}
 use Rattle.std.proofs.lemmas.List.{take_more, take_more_set, drop-set-lt, map-append}
 use Rattle.std.proofs.lemmas.Grind.{common_steps}
 use Rattle.cv_model.specs.declared.blend.Blend.{Blend}
-use Rattle.cv_model.specs.Blends.{channel_merged}
+use Rattle.cv_model.specs.declared.blend.Blend.TheVariants.{Normal, ColorDodge, ColorBurn}
+use Rattle.cv_model.specs.Blends.{channel_merged, mixed, color_dodge, color_burn}
 use Rattle.cv_compose.specs.Planes.{merged_plane, blended_plane}
 
 -- what lies from i on begins with the item at i
@@ -61,3 +62,31 @@ blended_plane_step mode below source i v within lengths is =
         (drop-set-lt (i + 1) source i v (omega arith))
     ∙ append_assoc (take i source) (v ∷ []) rest ∙ ap (λ x. take i source ++ x ∷ rest) is
     ∙ ap (λ xs. take i source ++ xs) (sym more)
+
+-- channels that were blended as if they were opaque are merged as those of the normal mode
+blended_then_mixed : (mode : Blend) → ((a cb cs : ℕ) → channel_merged mode a cb cs ≡ channel_merged Normal a cb (channel_merged mode 255 cb cs))
+    → (below source alphas : List ℕ)
+    → merged_plane (channel_merged Normal) below (blended_plane mode below source) alphas
+    ≡ merged_plane (channel_merged mode) below source alphas
+blended_then_mixed mode same [] source alphas = refl
+blended_then_mixed mode same (cb ∷ below) [] alphas = refl
+blended_then_mixed mode same (cb ∷ below) (cs ∷ source) [] = refl
+blended_then_mixed mode same (cb ∷ below) (cs ∷ source) (a ∷ alphas) =
+    ap (λ x. x ∷ merged_plane (channel_merged Normal) below (blended_plane mode below source) alphas) (sym (same a cb cs))
+    ∙ ap (λ rest. channel_merged mode a cb cs ∷ rest) (blended_then_mixed mode same below source alphas)
+
+-- an opaque channel hides the one below
+opaque_hides : (cb c : ℕ) → mixed 255 cb c ≡ c
+opaque_hides cb c = omega arith
+
+pub dodge_as_normal : (below source alphas : List ℕ)
+    → merged_plane (channel_merged Normal) below (blended_plane ColorDodge below source) alphas
+    ≡ merged_plane (channel_merged ColorDodge) below source alphas
+dodge_as_normal below source alphas =
+    blended_then_mixed ColorDodge (λ a cb cs. ap (mixed a cb) (sym (opaque_hides cb (color_dodge cb cs)))) below source alphas
+
+pub burn_as_normal : (below source alphas : List ℕ)
+    → merged_plane (channel_merged Normal) below (blended_plane ColorBurn below source) alphas
+    ≡ merged_plane (channel_merged ColorBurn) below source alphas
+burn_as_normal below source alphas =
+    blended_then_mixed ColorBurn (λ a cb cs. ap (mixed a cb) (sym (opaque_hides cb (color_burn cb cs)))) below source alphas

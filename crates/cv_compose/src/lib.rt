@@ -7,4 +7,5 @@
 mod channels;
 mod modes;
 mod planes;
+mod runs;
 mod tables;

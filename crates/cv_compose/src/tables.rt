@@ -38,6 +38,7 @@ pub(crate) trait Blender {
 }
 
 /// A mode by its formula.
+#[derive(Drop)]
 pub(crate) struct Formula {
     pub(crate) mode: Blend,
 }
