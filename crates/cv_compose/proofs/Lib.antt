@@ -1,3 +1,4 @@
 -- What the proofs of this crate share.
+pub mod CompositionLemmas
 pub mod PlaneLemmas
 pub mod RunLemmas

@@ -9,7 +9,8 @@ use Rattle.cv_model.specs.declared.blend.Blend.TheVariants.{Exclusion, Addition}
 use Rattle.cv_model.specs.declared.colour.Rgb.{Rgb}
 use Rattle.cv_model.specs.declared.colour.Rgba.{Rgba}
 use Rattle.cv_model.specs.Blends.{merge, channel_merged, effective, mixed}
-use Rattle.cv_compose.specs.Planes.{red, green, blue, alpha, merged_plane, colours, merged_run}
+use Rattle.cv_compose.specs.Planes.{red, green, blue, alpha, merged_plane, colours}
+use Rattle.cv_compose.specs.Runs.{merged_run}
 
 -- the effective alphas of a run
 abbrev pub weighed : ℕ → List Rgba → List ℕ

@@ -1,2 +1,4 @@
--- Composition by planes.
+-- Composition, in reading order.
+pub mod Inputs
 pub mod Planes
+pub mod Runs

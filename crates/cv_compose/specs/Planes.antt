@@ -3,7 +3,7 @@ use Rattle.std.specs.Prelude.{ℕ, ◌+◌, ◌*◌, ◌/◌, ◌%◌, ◌<◌, 
 use Rattle.cv_model.specs.declared.blend.Blend.{Blend}
 use Rattle.cv_model.specs.declared.colour.Rgb.{Rgb}
 use Rattle.cv_model.specs.declared.colour.Rgba.{Rgba}
-use Rattle.cv_model.specs.Blends.{merge, channel_merged}
+use Rattle.cv_model.specs.Blends.{channel_merged}
 
 -- the channels of a pixel
 abbrev pub red : Rgba → ℕ
@@ -43,9 +43,3 @@ colours [] g b = []
 colours (x ∷ r) [] b = []
 colours (x ∷ r) (y ∷ g) [] = []
 colours (x ∷ r) (y ∷ g) (z ∷ b) = record { r = x; g = y; b = z } ∷ colours r g b
-
--- a layer's run of pixels, merged with its opacity and mode onto the colours below
-abbrev pub merged_run : ℕ → Blend → List Rgb → List Rgba → List Rgb
-merged_run opacity mode [] source = []
-merged_run opacity mode (cb ∷ below) [] = []
-merged_run opacity mode (cb ∷ below) (s ∷ source) = merge cb s opacity mode ∷ merged_run opacity mode below source

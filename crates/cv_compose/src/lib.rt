@@ -5,7 +5,14 @@
 #![tactic(auto)]
 
 mod channels;
+mod composition;
+mod frame;
+mod input;
 mod modes;
 mod planes;
 mod runs;
 mod tables;
+
+pub use composition::{compose, Composed};
+pub use frame::{Frame, Slot, SlotList};
+pub use input::{ComposeInput, SlotImages};

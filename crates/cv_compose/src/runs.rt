@@ -1,14 +1,18 @@
 //! Runs of pixels: a layer's merged onto the colours below, plane by plane.
 
-ghost use Rattle.std.specs.Prelude.{◌≡◌, ◌≤◌, length};
+ghost use Rattle.std.specs.Prelude.{◌≡◌, ◌≤◌, ◌+◌, ◌-◌, length};
 ghost use Rattle.cv_model.specs.Blends.{channel_merged};
-ghost use Rattle.cv_compose.specs.Planes.{merged_plane, blended_plane, colours, merged_run};
+ghost use Rattle.cv_compose.specs.Planes.{merged_plane, blended_plane, colours};
+ghost use Rattle.cv_compose.specs.Runs.{merged_run, merged_slot, HasPixels};
 
 use crate::modes::{
     Addition, Darken, Difference, Exclusion, HardLight, Lighten, Multiply, Normal, Overlay, Screen,
 };
 use crate::planes::{is_clear, merge_plane, take_plane, take_words, weigh};
 use crate::tables::{blend_plane, Formula, Table};
+use crate::frame::Slot;
+use cv_chunks::Shared;
+use cv_layer::PaintedLayer;
 use cv_model::{Blend, Rgba};
 
 /// The most pixels of a run, so that its planes stay near the processor.
@@ -56,27 +60,22 @@ fn merge_channels(mode: Blend, tables: &[Table], below: &mut [u8], source: &mut 
     }
 }
 
-/// How a layer is merged.
-#[derive(Clone, Copy)]
-pub struct Merge {
-    pub opacity: u8,
-    pub blend: Blend,
-}
-
 /// Merges a layer's run of pixels onto colours, which are given by their planes.
-pub fn merge_run(
+fn merge_run(
     r: &mut [u8],
     g: &mut [u8],
     b: &mut [u8],
     pixels: &[Rgba],
-    merge: Merge,
+    opacity: u8,
+    mode: Blend,
     tables: &[Table],
 )
     requires few { length pixels.now ≤ 1024 }
     requires red { length r.now ≡ length pixels.now }
     requires green { length g.now ≡ length pixels.now }
     requires blue { length b.now ≡ length pixels.now }
-    ensures { colours r.new g.new b.new ≡ merged_run merge.opacity merge.blend (colours r.old g.old b.old) pixels.now }
+    ensures { colours r.new g.new b.new ≡ merged_run opacity mode
+        (colours r.old g.old b.old) pixels.now }
 {
     let (mut words, mut plane, mut alphas) = ([0; RUN], [0; RUN], [0; RUN]);
     let words = &mut words[..pixels.len()];
@@ -84,14 +83,43 @@ pub fn merge_run(
     let alphas = &mut alphas[..pixels.len()];
     take_words(words, pixels);
     take_plane::<16_777_216>(alphas, words);
-    weigh(alphas, merge.opacity);
+    weigh(alphas, opacity);
     if is_clear(alphas) {
         return;
     }
     take_plane::<1>(plane, words);
-    merge_channels(merge.blend, tables, r, plane, alphas);
+    merge_channels(mode, tables, r, plane, alphas);
     take_plane::<256>(plane, words);
-    merge_channels(merge.blend, tables, g, plane, alphas);
+    merge_channels(mode, tables, g, plane, alphas);
     take_plane::<65_536>(plane, words);
-    merge_channels(merge.blend, tables, b, plane, alphas);
+    merge_channels(mode, tables, b, plane, alphas);
+}
+
+/// Merges the run of a slot's layer from `start` to `end`, if it is there, onto colours, which are given by
+/// their planes.
+pub(crate) fn merge_slot(
+    r: &mut [u8],
+    g: &mut [u8],
+    b: &mut [u8],
+    slot: Slot,
+    layer: &Option<Shared<PaintedLayer>>,
+    start: usize,
+    end: usize,
+    tables: &[Table],
+)
+    requires order { start ≤ end }
+    requires few { end ≤ start + 1024 }
+    requires pixels { HasPixels end layer.now }
+    requires red { length r.now ≡ end - start }
+    requires green { length g.now ≡ end - start }
+    requires blue { length b.now ≡ end - start }
+    ensures { colours r.new g.new b.new ≡ merged_slot start end (colours r.old g.old b.old) (slot, layer.now) }
+{
+    match layer {
+        Some(painted) => {
+            let pixels = painted.value().image().pixels().as_slice();
+            merge_run(r, g, b, &pixels[start..end], slot.opacity, slot.blend, tables);
+        }
+        None => {}
+    }
 }
