@@ -2,3 +2,4 @@
 pub mod Inputs
 pub mod Planes
 pub mod Runs
+pub mod Laws

@@ -8,6 +8,7 @@ mod channels;
 mod composition;
 mod frame;
 mod input;
+pub mod laws;
 mod modes;
 mod planes;
 mod runs;

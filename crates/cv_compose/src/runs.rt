@@ -61,7 +61,7 @@ fn merge_channels(mode: Blend, tables: &[Table], below: &mut [u8], source: &mut 
 }
 
 /// Merges a layer's run of pixels onto colours, which are given by their planes.
-fn merge_run(
+pub(crate) fn merge_run(
     r: &mut [u8],
     g: &mut [u8],
     b: &mut [u8],
