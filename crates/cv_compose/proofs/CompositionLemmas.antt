@@ -60,8 +60,8 @@ merged_between : (opacity : ℕ) (mode : Blend) (start end : ℕ) (below : List 
     ≡ between start end (merged_run opacity mode below source)
 merged_between opacity mode start end below source =
     rw (between_is below start end, between_is source start end, between_is (merged_run opacity mode below source) start end)
-        (merged_drop opacity mode start (take end below) (take end source)
-        ∙ ap (drop start) (merged_take opacity mode end below source))
+    (merged_drop opacity mode start (take end below) (take end source)
+    ∙ ap (drop start) (merged_take opacity mode end below source))
 
 -- ---- what is merged of rows
 
@@ -86,10 +86,10 @@ merged_rows : (opacity : ℕ) (mode : Blend) (w : ℕ) (f : ℕ → ℕ → Rgb)
 merged_rows opacity mode w f g [] = refl
 merged_rows opacity mode w f g (j ∷ rows) =
     let same : length (row_of w f j) ≡ length (row_of w g j) =
-        length-map (range_with_len 0 w) (λ i. f i j) ∙ sym (length-map (range_with_len 0 w) (λ i. g i j)) in
+    length-map (range_with_len 0 w) (λ i. f i j) ∙ sym (length-map (range_with_len 0 w) (λ i. g i j)) in
     merged_append opacity mode (row_of w f j) (flat_map (row_of w f) rows) (row_of w g j) (flat_map (row_of w g) rows) same
     ∙ ap (λ row. row ++ merged_run opacity mode (flat_map (row_of w f) rows) (flat_map (row_of w g) rows))
-        (merged_map opacity mode (λ i. f i j) (λ i. g i j) (range_with_len 0 w))
+    (merged_map opacity mode (λ i. f i j) (λ i. g i j) (range_with_len 0 w))
     ∙ ap (λ rest. row_of w (λ i j. merge (f i j) (g i j) opacity mode) j ++ rest) (merged_rows opacity mode w f g rows)
 
 -- an image is merged pixel by pixel
@@ -124,9 +124,9 @@ slots_composed view w h start end wide high f (s ∷ slots) (None ∷ paintings)
 slots_composed view w h start end wide high f (s ∷ slots) (Some p ∷ paintings) each =
     let g = pixel p.input.parts p.view in
     ap (λ below. merged_slots start end below slots paintings)
-        (ap (merged_run s.opacity s.blend (between start end (pixels_of w h f))) (run_at view w h start end wide high p each.0.1)
-        ∙ merged_between s.opacity s.blend start end (pixels_of w h f) (pixels_of w h g)
-        ∙ ap (between start end) (merged_pixels s.opacity s.blend w h f g))
+    (ap (merged_run s.opacity s.blend (between start end (pixels_of w h f))) (run_at view w h start end wide high p each.0.1)
+    ∙ merged_between s.opacity s.blend start end (pixels_of w h f) (pixels_of w h g)
+    ∙ ap (between start end) (merged_pixels s.opacity s.blend w h f g))
     ∙ slots_composed view w h start end wide high (λ i j. merge (f i j) (g i j) s.opacity s.blend) slots paintings each.1
 
 -- a run of the picture is that of the background with the runs of the slots' paintings merged onto it
@@ -137,7 +137,7 @@ unfolding composed_at
 run_composed c kept start end below below_is =
     ap (λ xs. merged_slots start end xs c.frame.slots c.paintings) below_is
     ∙ slots_composed kept.view c.frame.width c.frame.height start end (sym kept.width) (sym kept.height)
-        (λ i j. c.frame.background) c.frame.slots c.paintings kept.slots
+    (λ i j. c.frame.background) c.frame.slots c.paintings kept.slots
 
 -- ---- the background
 

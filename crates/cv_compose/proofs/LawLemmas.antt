@@ -33,7 +33,7 @@ place_merges project view i j layer true None is places others rest = absurd is
 place_merges project view i j layer true (Some p) is places others rest =
     ap (λ (parts : Parts). (pixel parts p.view i j, layer.opacity, layer.blend) ∷ filter_map (merged_painting i j) places) is.0
     ∙ ap (λ (v : PixelGrid). (pixel (parts_among project.layers layer.core) v i j, layer.opacity, layer.blend)
-        ∷ filter_map (merged_painting i j) places) is.1
+    ∷ filter_map (merged_painting i j) places) is.1
     ∙ ap (λ more. merged_slot project view i j layer ∷ more) rest
 
 -- what the places merge at a pixel is what the chosen slots merge there
@@ -47,8 +47,8 @@ places_merge project view there i j k [] (p ∷ paintings) are = absurd are
 places_merge project view there i j k (layer ∷ layers) [] are = absurd are
 places_merge project view there i j k (layer ∷ layers) (p ∷ paintings) are =
     place_merges project view i j layer (there k) p are.0
-        (zip (map slot_frame layers) paintings) (chosen there (k + 1) layers)
-        (places_merge project view there i j (k + 1) layers paintings are.1)
+    (zip (map slot_frame layers) paintings) (chosen there (k + 1) layers)
+    (places_merge project view there i j (k + 1) layers paintings are.1)
 
 -- so the composition is the picture of the chosen slots
 composed_chosen : (project : Project) (view : PixelGrid) (there : ℕ → Bool) (paintings : List (Option Painting))
@@ -58,8 +58,8 @@ composed_chosen : (project : Project) (view : PixelGrid) (there : ℕ → Bool) 
 unfolding composed_at colour_of
 composed_chosen project view there paintings are =
     ap (λ f. record { width = view.w; height = view.h; pixels = pixels_of view.w view.h f })
-        (fun_ext (λ i. fun_ext (λ j. ap (merged project.background)
-            (places_merge project view there i j 0 (slots project view) paintings are))))
+    (fun_ext (λ i. fun_ext (λ j. ap (merged project.background)
+    (places_merge project view there i j 0 (slots project view) paintings are))))
 
 -- the chosen ones are those listed, or all
 chosen_listed : (ready : List ℕ) (k : ℕ) (layers : List Layer) → chosen (λ n. list_any (nat_eq n) ready) k layers ≡ listed ready k layers

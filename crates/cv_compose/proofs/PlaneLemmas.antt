@@ -31,9 +31,9 @@ pub merged_plane_step : (f : ℕ → ℕ → ℕ → ℕ) (below source alpha : 
 merged_plane_step f below source alpha i v within sources alphas is =
     let rest = merged_plane f (drop (i + 1) below) (drop (i + 1) source) (drop (i + 1) alpha) in
     ap (λ xs. xs ++ merged_plane f (drop (i + 1) (set below i v)) (drop (i + 1) source) (drop (i + 1) alpha))
-        (take_more_set below i v within)
+    (take_more_set below i v within)
     ∙ ap (λ xs. (take i below ++ v ∷ []) ++ merged_plane f xs (drop (i + 1) source) (drop (i + 1) alpha))
-        (drop-set-lt (i + 1) below i v (omega arith))
+    (drop-set-lt (i + 1) below i v (omega arith))
     ∙ append_assoc (take i below) (v ∷ []) rest
     ∙ ap (λ x. take i below ++ x ∷ rest) is
     ∙ ap (λ xs. take i below ++ xs) (sym (merged_more f below source alpha i within (omega arith) (omega arith)))
@@ -55,11 +55,11 @@ pub blended_plane_step : (mode : Blend) (below source : List ℕ) (i v : ℕ) �
 blended_plane_step mode below source i v within lengths is =
     let rest = blended_plane mode (drop (i + 1) below) (drop (i + 1) source) in
     let more : blended_plane mode (drop i below) (drop i source)
-        ≡ channel_merged mode 255 (get_or below i 0) (get_or source i 0) ∷ rest =
-        rw (drop_more below i 0 (omega arith), drop_more source i 0 within) refl in
+    ≡ channel_merged mode 255 (get_or below i 0) (get_or source i 0) ∷ rest =
+    rw (drop_more below i 0 (omega arith), drop_more source i 0 within) refl in
     ap (λ xs. xs ++ blended_plane mode (drop (i + 1) below) (drop (i + 1) (set source i v))) (take_more_set source i v within)
     ∙ ap (λ xs. (take i source ++ v ∷ []) ++ blended_plane mode (drop (i + 1) below) xs)
-        (drop-set-lt (i + 1) source i v (omega arith))
+    (drop-set-lt (i + 1) source i v (omega arith))
     ∙ append_assoc (take i source) (v ∷ []) rest ∙ ap (λ x. take i source ++ x ∷ rest) is
     ∙ ap (λ xs. take i source ++ xs) (sym more)
 

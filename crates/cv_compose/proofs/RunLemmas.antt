@@ -19,8 +19,8 @@ weighed opacity pixels = map (λ a. effective a opacity) (map alpha pixels)
 -- the colours of three planes, each merged, are the colours merged
 pub colours_merged : (opacity : ℕ) (mode : Blend) (r g b : List ℕ) (pixels : List Rgba)
     → colours (merged_plane (channel_merged mode) r (map red pixels) (weighed opacity pixels))
-        (merged_plane (channel_merged mode) g (map green pixels) (weighed opacity pixels))
-        (merged_plane (channel_merged mode) b (map blue pixels) (weighed opacity pixels))
+    (merged_plane (channel_merged mode) g (map green pixels) (weighed opacity pixels))
+    (merged_plane (channel_merged mode) b (map blue pixels) (weighed opacity pixels))
     ≡ merged_run opacity mode (colours r g b) pixels
 colours_merged opacity mode [] g b pixels = refl
 colours_merged opacity mode (x ∷ r) [] b [] = refl
@@ -76,4 +76,4 @@ clear_run opacity mode (x ∷ r) (y ∷ g) (z ∷ b) (p ∷ pixels) len br bg bb
     let none = eqb-true (effective p.a opacity) 0 both.0 in
     ap (λ c. c ∷ merged_run opacity mode (colours r g b) pixels) (clear_pixel opacity mode x y z p none (br 0) (bg 0) (bb 0))
     ∙ ap (λ rest. record { r = x; g = y; b = z } ∷ rest)
-        (clear_run opacity mode r g b pixels (omega arith) (λ k. br (suc k)) (λ k. bg (suc k)) (λ k. bb (suc k)) both.1)
+    (clear_run opacity mode r g b pixels (omega arith) (λ k. br (suc k)) (λ k. bg (suc k)) (λ k. bb (suc k)) both.1)

@@ -8,10 +8,13 @@ use Rattle.cv_model.specs.Blends.{channel_merged}
 -- the channels of a pixel
 abbrev pub red : Rgba → ℕ
 red p = p.r
+
 abbrev pub green : Rgba → ℕ
 green p = p.g
+
 abbrev pub blue : Rgba → ℕ
 blue p = p.b
+
 abbrev pub alpha : Rgba → ℕ
 alpha p = p.a
 

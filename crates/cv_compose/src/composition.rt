@@ -8,7 +8,7 @@ ghost use Rattle.cv_compose.specs.Runs.{merged_slots, HasPixels};
 
 use crate::frame::Slot;
 use crate::input::ComposeInput;
-use crate::runs::{merge_slot, RUN};
+use crate::runs::{RUN, merge_slot};
 use crate::tables::Table;
 use cv_chunks::Shared;
 use cv_layer::PaintedLayer;
@@ -123,7 +123,16 @@ fn put_run(
     fill(r, background.r);
     fill(g, background.g);
     fill(b, background.b);
-    merge_slots(r, g, b, frame.slots().as_slice(), layers, start, end, tables);
+    merge_slots(
+        r,
+        g,
+        b,
+        frame.slots().as_slice(),
+        layers,
+        start,
+        end,
+        tables,
+    );
     put_colours(pixels, r, g, b)
 }
 

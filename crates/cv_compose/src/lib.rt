@@ -14,6 +14,9 @@ mod planes;
 mod runs;
 mod tables;
 
-pub use composition::{compose, Composed};
+pub use composition::{Composed, compose};
 pub use frame::{Frame, Slot, SlotList};
 pub use input::{ComposeInput, SlotImages};
+
+#[cfg(test)]
+mod tests;

@@ -5,9 +5,7 @@ ghost use Rattle.cv_model.specs.declared.blend.Blend.{Blend};
 ghost use Rattle.cv_model.specs.declared.blend.Blend.TheVariants as blends;
 ghost use Rattle.cv_model.specs.Blends.{channel_merged};
 
-use crate::channels::{
-    added, difference, exclusion, hard_light, mixed, multiply, screen,
-};
+use crate::channels::{added, difference, exclusion, hard_light, mixed, multiply, screen};
 
 /// A blend mode.
 pub(crate) trait Mode {

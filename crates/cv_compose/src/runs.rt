@@ -5,12 +5,12 @@ ghost use Rattle.cv_model.specs.Blends.{channel_merged};
 ghost use Rattle.cv_compose.specs.Planes.{merged_plane, blended_plane, colours};
 ghost use Rattle.cv_compose.specs.Runs.{merged_run, merged_slot, HasPixels};
 
+use crate::frame::Slot;
 use crate::modes::{
     Addition, Darken, Difference, Exclusion, HardLight, Lighten, Multiply, Normal, Overlay, Screen,
 };
 use crate::planes::{is_clear, merge_plane, take_plane, take_words, weigh};
-use crate::tables::{blend_plane, Formula, Table};
-use crate::frame::Slot;
+use crate::tables::{Formula, Table, blend_plane};
 use cv_chunks::Shared;
 use cv_layer::PaintedLayer;
 use cv_model::{Blend, Rgba};
@@ -118,7 +118,15 @@ pub(crate) fn merge_slot(
     match layer {
         Some(painted) => {
             let pixels = painted.value().image().pixels().as_slice();
-            merge_run(r, g, b, &pixels[start..end], slot.opacity, slot.blend, tables);
+            merge_run(
+                r,
+                g,
+                b,
+                &pixels[start..end],
+                slot.opacity,
+                slot.blend,
+                tables,
+            );
         }
         None => {}
     }

@@ -14,11 +14,7 @@ use std::marker::Model;
 fn blended(mode: Blend, cb: u8, cs: u8) -> u8
     ensures { result ≡ channel_merged mode 255 cb cs }
 {
-    let backdrop = Rgb {
-        r: cb,
-        g: 0,
-        b: 0,
-    };
+    let backdrop = Rgb { r: cb, g: 0, b: 0 };
     let source = Rgba {
         r: cs,
         g: 0,

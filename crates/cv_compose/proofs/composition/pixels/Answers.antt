@@ -12,9 +12,9 @@ loop-start-preserved c =
     let order : c.loop-start.start ≤ c.min-end.result = search rules in
     record {
       pixels =
-        c.in_ok-put_run.ensures
-        ∙ ap (λ front. front ++ between c.loop-start.start c.min-end.result all) c.loop-start.invariant.pixels
-        ∙ run_more all c.loop-start.start c.min-end.result order;
+          c.in_ok-put_run.ensures
+          ∙ ap (λ front. front ++ between c.loop-start.start c.min-end.result all) c.loop-start.invariant.pixels
+          ∙ run_more all c.loop-start.start c.min-end.result order;
       within = search rules;
     }
 
