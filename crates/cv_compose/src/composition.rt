@@ -112,7 +112,8 @@ fn put_run(
     requires order { start ≤ end }
     requires few { end ≤ start + 1024 }
     requires within { end ≤ input.now.frame.width * input.now.frame.height }
-    ensures { OnOk result (pixels.new ≡ pixels.old ++ between start end (composed input.now).pixels) }
+    ensures { OnOk result
+        (pixels.new ≡ pixels.old ++ between start end (composed input.now).pixels) }
 {
     let (frame, layers) = (input.frame(), input.layers().as_slice());
     let background = frame.background();

@@ -1,7 +1,8 @@
 //! Composition: the images of a picture's layers, merged in order onto its background.
 //!
-//! Contract: the picture is the composition's by the definition, at every pixel, with the slots that are there.
-//! Definitions: `Paintings` and `Blends` of `cv_model`; `Planes`. Takes memory for the picture; no handle.
+//! Contract: the picture is the composition's by the definition, at every pixel, with the slots that are
+//! there. Definitions: `Paintings` and `Blends` of `cv_model`; `Inputs`, `Planes`, `Runs`, `Laws`. Takes
+//! memory for the picture and for tables; no handle.
 #![tactic(auto)]
 
 mod channels;

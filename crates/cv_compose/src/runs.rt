@@ -113,7 +113,8 @@ pub(crate) fn merge_slot(
     requires red { length r.now ≡ end - start }
     requires green { length g.now ≡ end - start }
     requires blue { length b.now ≡ end - start }
-    ensures { colours r.new g.new b.new ≡ merged_slot start end (colours r.old g.old b.old) (slot, layer.now) }
+    ensures { colours r.new g.new b.new
+        ≡ merged_slot start end (colours r.old g.old b.old) (slot, layer.now) }
 {
     match layer {
         Some(painted) => {
