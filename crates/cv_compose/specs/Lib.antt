@@ -1,0 +1,5 @@
+-- Composition, in reading order.
+pub mod Inputs
+pub mod Planes
+pub mod Runs
+pub mod Laws
