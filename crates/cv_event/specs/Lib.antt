@@ -1,0 +1,3 @@
+-- The definitions of journals, in reading order.
+pub mod States
+pub mod Legality
