@@ -1,0 +1,2 @@
+-- Lemmas on journals, for the proofs of all crates.
+pub mod WorkedJournals
