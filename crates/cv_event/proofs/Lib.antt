@@ -1,2 +1,5 @@
 -- Lemmas on journals, for the proofs of all crates.
 pub mod WorkedJournals
+pub mod JobLemmas
+pub mod EndLemmas
+pub mod TakenLemmas

@@ -1,3 +1,5 @@
 -- The definitions of journals, in reading order.
 pub mod States
 pub mod Legality
+pub mod Histories
+pub mod Laws

@@ -7,6 +7,7 @@
 
 mod entry;
 mod journal;
+pub mod laws;
 mod refused;
 mod slot;
 
