@@ -3,3 +3,4 @@ pub mod WorkedJournals
 pub mod JobLemmas
 pub mod EndLemmas
 pub mod TakenLemmas
+pub mod SlotLemmas
