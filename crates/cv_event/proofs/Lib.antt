@@ -4,3 +4,5 @@ pub mod JobLemmas
 pub mod EndLemmas
 pub mod TakenLemmas
 pub mod SlotLemmas
+pub mod CacheLemmas
+pub mod PresentLemmas

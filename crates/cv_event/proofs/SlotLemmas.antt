@@ -115,7 +115,7 @@ look_is k (job ∷ jobs) j at h = by (open_task k job) refl h (look_is (suc k) j
           open_is = r.open_is;
         }
 
-same_some : {A : Type 0} {x y : A} (o : Option A) → o ≡ Some x → o ≡ Some y → x ≡ y
+pub same_some : {A : Type 0} {x y : A} (o : Option A) → o ≡ Some x → o ≡ Some y → x ≡ y
 same_some o h g = cc
 
 -- the slot of the task is open
@@ -160,7 +160,7 @@ map_same : {A : Type 0} (o : Option A) → o ≡ option_map (λ x. x) o
 map_same None = refl
 map_same (Some x) = refl
 
-changed : {A : Type 0} (change : A → A) (xs : List A) (i m : ℕ) → slice_get (change_at i change xs) m ≡ option_map (λ
+pub changed : {A : Type 0} (change : A → A) (xs : List A) (i m : ℕ) → slice_get (change_at i change xs) m ≡ option_map (λ
     x. if i == m then change x else x) (slice_get xs m)
 changed change [] i m = refl
 changed change (y ∷ ys) zero zero = refl
@@ -210,15 +210,15 @@ slot_one j who (act.Save c k) job at = map_same (slice_get job.slots at)
 
 -- ---- ready and open slots
 
-or_false : (b : Bool) → b ≡ (b || false)
+pub or_false : (b : Bool) → b ≡ (b || false)
 or_false true = refl
 or_false false = refl
 
-and_true : (b : Bool) → b ≡ (b && true)
+pub and_true : (b : Bool) → b ≡ (b && true)
 and_true true = refl
 and_true false = refl
 
-and_false : (b : Bool) → false ≡ (b && false)
+pub and_false : (b : Bool) → false ≡ (b && false)
 and_false true = refl
 and_false false = refl
 
@@ -405,7 +405,7 @@ pub record SlotBehind (j : ℕ) (job : Job) (at : ℕ) (slot : Slot) (rest : Lis
   pub touched : (fold (job_does j) job rest).ended ≡ None → now.touched ≡ (slot.touched || list_any (λ e.
       touches_any e (deps job.project slot.layer)) (edits rest))
 
-or_more : (a b c : Bool) → ((a || b) || c) ≡ (a || (b || c))
+pub or_more : (a b c : Bool) → ((a || b) || c) ≡ (a || (b || c))
 or_more true b c = refl
 or_more false b c = refl
 
@@ -473,7 +473,7 @@ slot_more s (entry ∷ rest) j job at slot legal there is =
 
 -- ---- the laws
 
-some_none : {A : Type 0} (x : A) → Some x ≡ None → ⊥
+pub some_none : {A : Type 0} (x : A) → Some x ≡ None → ⊥
 some_none x h = absurd cc
 
 -- a place of which a job behind a journal has a slot had one at the start

@@ -44,7 +44,7 @@ project_made : (s : State) (e : Edit) (v : Option EditError) → (edit_made e v 
 project_made s e None = refl
 project_made s e (Some error) = refl
 
-project_one : (s : State) (who : ℕ) (a : Act) → (did s who a).project ≡ fold step s.project (cons_option
+pub project_one : (s : State) (who : ℕ) (a : Act) → (did s who a).project ≡ fold step s.project (cons_option
     (accepted_edit a) [])
 project_one s who (act.Edit e v) = project_made s e v
 project_one s who (act.View c view) = refl

@@ -1,13 +1,14 @@
 -- What a journal says of its edits, views and jobs, read off its entries.
 --
 -- Source: this project's own.
-use Rattle.std.specs.Prelude.{ℕ, zero, suc, ◌==◌, Bool, true, false, ◌&&◌, if◌then◌else◌, List, []}
-use Rattle.std.specs.Prelude.{◌∷◌, filter_map, Option, Some, None, option_map}
+use Rattle.std.specs.Prelude.{◌≡◌, ℕ, zero, suc, ◌==◌, Bool, true, false, ◌&&◌, if◌then◌else◌, List, []}
+use Rattle.std.specs.Prelude.{◌∷◌, filter, filter_map, Option, Some, None, option_map, option_and_then, slice_get}
 use Rattle.std.specs.List.{list_any}
-use Rattle.std.specs.Option.{option_or}
+use Rattle.std.specs.Option.{option_or, option_map_or}
 use Rattle.cv_model.specs.declared.colour.Rgb.{Rgb}
 use Rattle.cv_model.specs.declared.edit.Edit.{Edit}
 use Rattle.cv_model.specs.Views.{PixelGrid}
+use Rattle.cv_model.specs.Layers.{parts}
 use Rattle.cv_model.specs.Pictures.{picture_with}
 use Rattle.cv_model.specs.Rasters.{Raster}
 use Rattle.cv_event.specs.declared.entry.Act.{Act}
@@ -17,7 +18,8 @@ use Rattle.cv_event.specs.declared.entry.Fate.{Fate}
 use Rattle.cv_event.specs.declared.entry.Fate.TheVariants.{Stored, Kept, Dropped}
 use Rattle.cv_event.specs.declared.entry.How.{How}
 use Rattle.cv_event.specs.declared.entry.How.TheVariants.{Finished, Cancelled, NoMemory}
-use Rattle.cv_event.specs.States.{Taken, Job, State, job_in, taken_of}
+use Rattle.cv_event.specs.States.{Taken, Job, Cached, Canvas, State, job_in, view_on, to_front, put_front, stays}
+use Rattle.cv_event.specs.States.{keeps_cache, image_of_slot, taken_of}
 
 -- ---- edits and views
 
@@ -95,3 +97,42 @@ composes j _ = false
 -- some of these entries has an act that passes
 abbrev pub some_act : (Act → Bool) → List Entry → Bool
 some_act test journal = list_any (λ (entry : Entry). test entry.act) journal
+
+-- ---- the cache of a canvas
+
+-- the images in a canvas's cache, most recent first
+abbrev pub cached : State → ℕ → List Cached
+cached s c = option_map_or (λ (k : Canvas). k.cache) (slice_get s.canvases c) []
+
+-- how many a canvas keeps
+abbrev pub capacity_on : State → ℕ → ℕ
+capacity_on s c = option_map_or (λ (k : Canvas). k.spec.capacity) (slice_get s.canvases c) 0
+
+-- the image of a job's slot, where the job is on this canvas
+abbrev pub image_on : State → ℕ → ℕ → ℕ → Option Cached
+image_on s c j at =
+    option_and_then
+    (λ (job : Job). if job.canvas == c
+    then option_map (image_of_slot job) (slice_get job.slots at)
+    else None) (job_in s.jobs j)
+
+-- what an act in a state makes of a canvas's cache: a view that is no pan of the one before empties it, an
+-- accepted edit takes out what depends on the layer that it touches, a hit moves its image to the front, and
+-- a stored delivery puts its image there and cuts the rest to the capacity
+abbrev pub cache_behind : State → ℕ → Act → List Cached → List Cached
+cache_behind s c (act.View k view) cache =
+    if k == c then (if keeps_cache (view_on s c) view then cache else []) else cache
+cache_behind s c (act.Edit e None) cache = filter (stays s.project e) cache
+cache_behind s c (act.Look j at true) cache =
+    option_map_or (λ (image : Cached). to_front image.layer cache) (image_on s c j at) cache
+cache_behind s c (act.Deliver j at Stored) cache =
+    option_map_or (λ image. put_front (capacity_on s c) image cache) (image_on s c j at) cache
+cache_behind s c _ cache = cache
+
+-- an image was painted for a job, at its view, of what the present project has as the layer's parts
+pub record IsPainted (s : State) (image : Cached) : Type 0 where
+  pub number : ℕ
+  pub job : Job
+  pub job_is : job_in s.jobs number ≡ Some job
+  pub view_is : image.view ≡ job.view
+  pub parts_are : parts job.project image.layer ≡ parts s.project image.layer

@@ -1,7 +1,7 @@
 -- What holds of legal journals, in the words of their entries: laws, each the clause of a function of its
 -- name. A job's own entries are those behind its start.
 use Rattle.std.specs.Prelude.{◌≡◌, ℕ, ◌==◌, Bool, true, false, not, ◌&&◌, ◌||◌, List, [], ◌∷◌, ◌++◌, length}
-use Rattle.std.specs.Prelude.{slice_get, Option, Some, None, option_map, IsSomeAnd, is_none}
+use Rattle.std.specs.Prelude.{slice_get, Option, Some, None, option_map, IsSomeAnd, is_some, is_none, ◌<◌}
 use Rattle.std.specs.List.{list_any, AllByRecursion}
 use Rattle.cv_model.specs.declared.edit.Edit.{Edit}
 use Rattle.cv_model.specs.Views.{PixelGrid}
@@ -14,10 +14,11 @@ use Rattle.cv_event.specs.declared.entry.Entry.{Entry}
 use Rattle.cv_event.specs.declared.entry.Fate.TheVariants.{Dropped}
 use Rattle.cv_event.specs.declared.entry.How.{How}
 use Rattle.cv_event.specs.declared.slot.Slot.{Slot}
-use Rattle.cv_event.specs.States.{Taken, Job, State, job_in, view_on, replay}
-use Rattle.cv_event.specs.Legality.{OfJob, OfSlot, how, is_open, is_ready, IsLegal}
+use Rattle.cv_event.specs.declared.slot.Task.TheVariants.{Look, Compose}
+use Rattle.cv_event.specs.States.{Taken, Job, State, job_in, view_on, did, replay}
+use Rattle.cv_event.specs.Legality.{OfJob, OfSlot, how, is_open, is_ready, open_task, task, IsLegal}
 use Rattle.cv_event.specs.Histories.{edits, last_view, taken, image, first_end, looks_at, makes_ready}
-use Rattle.cv_event.specs.Histories.{composes, some_act}
+use Rattle.cv_event.specs.Histories.{composes, some_act, cached, cache_behind, IsPainted}
 
 -- an entry
 abbrev pub entry_of : ℕ → Act → Entry
@@ -132,3 +133,40 @@ ComposerIsOfCompose =
     (o : Opening) (past rest : List Entry) (who c j : ℕ) → IsLegal o (started_between past who c j rest)
     → OfJob (replay o (started_between past who c j rest)) j (λ job. is_none job.composer ≡ not (some_act
     (composes j) rest))
+
+-- ---- the cache
+
+-- a canvas's cache is changed by each act as the definition says, whatever the other canvases hold
+abbrev pub CacheOfOneCanvas : Type 0
+CacheOfOneCanvas =
+    (s : State) (who c : ℕ) (a : Act) → cached (did s who a) c ≡ cache_behind s c a (cached s c)
+
+-- what stands in a cache was painted of the present parts of its layer
+abbrev pub CachedImagesArePresent : Type 0
+CachedImagesArePresent =
+    (o : Opening) (journal : List Entry) (c : ℕ) → IsLegal o journal
+    → AllByRecursion (IsPainted (replay o journal)) (cached (replay o journal) c)
+
+-- ---- the task
+
+-- the task is that of the first job that has one
+abbrev pub TaskIsOfTheFirst : Type 0
+TaskIsOfTheFirst =
+    (s : State) (j : ℕ) (job : Job) → job_in s.jobs j ≡ Some job → is_some (open_task j job) ≡ true
+    → ((k : ℕ) (other : Job) → k < j → job_in s.jobs k ≡ Some other → open_task k other ≡ None)
+    → task s ≡ open_task j job
+
+-- a job without end has its least open slot as its task
+abbrev pub TaskIsLeastSlot : Type 0
+TaskIsLeastSlot =
+    (j at : ℕ) (job : Job) (slot : Slot) → job.ended ≡ None → slice_get job.slots at ≡ Some slot
+    → is_open slot.standing ≡ true
+    → ((i : ℕ) (lower : Slot) → i < at → slice_get job.slots i ≡ Some lower → is_open lower.standing ≡ false)
+    → open_task j job ≡ Some (Look j at)
+
+-- and its composition where all slots are ready and nobody composes it
+abbrev pub ComposeIsDue : Type 0
+ComposeIsDue =
+    (j : ℕ) (job : Job) → job.ended ≡ None
+    → ((i : ℕ) (slot : Slot) → slice_get job.slots i ≡ Some slot → is_ready slot.standing ≡ true)
+    → job.composer ≡ None → open_task j job ≡ Some (Compose j)

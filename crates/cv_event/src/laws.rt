@@ -3,7 +3,8 @@
 ghost use Rattle.cv_event.specs.Laws.{ProjectIsOfEdits, ViewIsLast, JobTakesThePresent, ImageIsOfTheTaken};
 ghost use Rattle.cv_event.specs.Laws.{EndIsFirst, EndsStay, EndedJobsAreVoid, CancelledJobsAreVoid};
 ghost use Rattle.cv_event.specs.Laws.{SupersededJobsAreVoid, SlotsAreAsLooked, TouchedByEdits};
-ghost use Rattle.cv_event.specs.Laws.{ComposerIsOfCompose};
+ghost use Rattle.cv_event.specs.Laws.{ComposerIsOfCompose, CacheOfOneCanvas, CachedImagesArePresent};
+ghost use Rattle.cv_event.specs.Laws.{TaskIsOfTheFirst, TaskIsLeastSlot, ComposeIsDue};
 
 /// The present project is that of the opening behind all accepted edits.
 pub fn project_is_of_edits()
@@ -64,4 +65,29 @@ pub fn touched_by_edits()
 /// Somebody composes a job's picture where its compose stands.
 pub fn composer_is_of_compose()
     ensures { ComposerIsOfCompose }
+{}
+
+/// A canvas's cache is changed by each act as the definition says, whatever the other canvases hold.
+pub fn cache_of_one_canvas()
+    ensures { CacheOfOneCanvas }
+{}
+
+/// What stands in a cache was painted of the present parts of its layer.
+pub fn cached_images_are_present()
+    ensures { CachedImagesArePresent }
+{}
+
+/// The task is that of the first job that has one.
+pub fn task_is_of_the_first()
+    ensures { TaskIsOfTheFirst }
+{}
+
+/// A job without end has its least open slot as its task.
+pub fn task_is_least_slot()
+    ensures { TaskIsLeastSlot }
+{}
+
+/// A job without end whose slots are all ready has its composition as its task, once.
+pub fn compose_is_due()
+    ensures { ComposeIsDue }
 {}
