@@ -6,3 +6,4 @@ pub mod TakenLemmas
 pub mod SlotLemmas
 pub mod CacheLemmas
 pub mod PresentLemmas
+pub mod TaskLemmas
