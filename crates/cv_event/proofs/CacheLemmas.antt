@@ -117,6 +117,7 @@ cache_looked s c j at true = of_job (job_in s.jobs j)
     of_slot job (Some slot) =
         ap cache_in (changed (with_cache (served (image_of_slot job slot))) s.canvases job.canvas c)
         ∙ cache_served (image_of_slot job slot) (job.canvas == c) (slice_get s.canvases c)
+
     of_job : (o : Option Job) → cache_in (slice_get (option_map_or (λ (job : Job). option_map_or (λ slot. change_at
         job.canvas (with_cache (served (image_of_slot job slot))) s.canvases) (slice_get job.slots at) s.canvases) o
         s.canvases) c) ≡ option_map_or (λ (image : Cached). to_front image.layer (cached s c)) (option_and_then (λ
@@ -142,6 +143,7 @@ cache_delivered s c j at Stored = of_job (job_in s.jobs j)
     of_slot job (Some slot) =
         ap cache_in (changed (with_cache (stored (image_of_slot job slot))) s.canvases job.canvas c)
         ∙ cache_stored (image_of_slot job slot) (job.canvas == c) (slice_get s.canvases c)
+
     of_job : (o : Option Job) → cache_in (slice_get (option_map_or (λ (job : Job). option_map_or (λ slot. change_at
         job.canvas (with_cache (stored (image_of_slot job slot))) s.canvases) (slice_get job.slots at) s.canvases) o
         s.canvases) c) ≡ option_map_or (λ image. put_front (capacity_on s c) image (cached s c)) (option_and_then (λ

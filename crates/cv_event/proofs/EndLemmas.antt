@@ -50,10 +50,14 @@ no_end_where true change job same = same ∙ sym (or_none job.ended)
 no_end_where false change job same = sym (or_none job.ended)
 
 edited_end : (e : Edit) (b : Bool) (job : Job) → is_some job.ended ≡ b → (job_edited e job).ended ≡ job.ended
-edited_end e true job is = ap (λ (b : Bool). (if b then job else record job { slots = map (slot_edited job.project e)
-    job.slots }).ended) is
-edited_end e false job is = ap (λ (b : Bool). (if b then job else record job { slots = map (slot_edited job.project
-    e) job.slots }).ended) is
+edited_end e true job is = ap (λ (b : Bool). (if b then job else record job {
+  slots = map (slot_edited job.project e)
+      job.slots;
+}).ended) is
+edited_end e false job is = ap (λ (b : Bool). (if b then job else record job {
+  slots = map (slot_edited job.project
+      e) job.slots;
+}).ended) is
 
 edit_end : (e : Edit) (v : Option EditError) (job : Job) → (edit_does e v job).ended ≡ job.ended
 edit_end e None job = edited_end e (is_some job.ended) job refl
@@ -187,6 +191,7 @@ all_dropped s who j k at h fate is allowed same = by (job_in s.jobs k) refl allo
     of_slot job None has never = absurd never
     of_slot job (Some slot) has had =
         had.1 ∙ ap (λ (e : Option How). fate_of s (record job { ended = e }) slot) has
+
     by : (o : Option Job) → job_in s.jobs k ≡ o → IsSomeAnd o (λ (job : Job). IsSomeAnd (slice_get job.slots at) (λ
         slot. (slot.standing ≡ Missed who) × (fate ≡ fate_of s job slot))) → fate ≡ Dropped
     by None there never = absurd never
@@ -209,9 +214,11 @@ void_one s who j h (act.Save c k) is allowed = tt
 pub void_more : (s : State) (rest : List Entry) (j : ℕ) (h : How) → LegalFrom s rest → how s j ≡ Some h
     → AllByRecursion (λ (entry : Entry). IsVoid j entry.act) rest
 void_more s [] j h legal is = tt
-void_more s (entry ∷ rest) j h legal is =
-    (void_one s entry.caller j h entry.act is legal.0, void_more (after s entry) rest j h legal.1 (ended_more s
-    (entry ∷ []) j h (legal.0, tt) is))
+void_more s (entry ∷ rest) j h legal is = (
+  void_one s entry.caller j h entry.act is legal.0,
+  void_more (after s entry) rest j h legal.1 (ended_more s
+      (entry ∷ []) j h (legal.0, tt) is),
+)
 
 pub ended_jobs_are_void : EndedJobsAreVoid
 ended_jobs_are_void o past rest j h legal is =

@@ -182,8 +182,8 @@ began o past rest who c j legal = by (view_on (replay o past) c) refl (legal_par
     by (Some view) is parts =
         let s = replay o past in
         let new : job_in (started c (view_on s c) s).jobs j ≡ Some (new_job c s.project view) =
-            ap (λ v. job_in (started c v s).jobs j) is ∙ ap (job_in (started c (Some view) s).jobs) parts.0.1
-            ∙ new_started s c view in
+        ap (λ v. job_in (started c v s).jobs j) is ∙ ap (job_in (started c (Some view) s).jobs) parts.0.1
+        ∙ new_started s c view in
         record {
           view = view;
           view_is = is;

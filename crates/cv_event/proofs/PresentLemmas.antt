@@ -139,8 +139,10 @@ job_fresh_edited : (present : Project) (e : Edit) (job : Job) → IsFreshJob pre
     (job_edited e job)
 job_fresh_edited present e job was = by job.ended refl
   where
-    by : (o : Option How) → job.ended ≡ o → IsFreshJob (step present e) (if is_some o then job else record job { slots
-        = map (slot_edited job.project e) job.slots })
+    by : (o : Option How) → job.ended ≡ o → IsFreshJob (step present e) (if is_some o then job else record job {
+      slots
+          = map (slot_edited job.project e) job.slots;
+    })
     by (Some h) is live = absurd cc
     by None is live = all_map (IsFreshSlot present job.project) (IsFreshSlot (step present e) job.project)
         (slot_edited job.project e) (fresh_edited present job.project e) job.slots (was is)
@@ -272,9 +274,11 @@ stored_fresh s job slot h = by job.ended refl h
     on (Some canvas) h =
         let taken = both_true (is_fresh canvas job slot) _ h in
         let fresh = both_true (shows canvas job.view) (not slot.touched) taken.0 in not_touched slot.touched fresh.1
+
     kept : (b : Bool) → Stored ≡ (if b then Stored else Kept) → b ≡ true
     kept true h = refl
     kept false h = absurd cc
+
     by : (o : Option How) → job.ended ≡ o → Stored ≡ (if is_some o then Dropped else if on_canvas is_taken s job slot
         then Stored else Kept) → (job.ended ≡ None) × (slot.touched ≡ false)
     by None is h = (is, on (slice_get s.canvases job.canvas) (kept (on_canvas is_taken s job slot) h))
@@ -299,9 +303,16 @@ painted_stored s who j at image fresh allowed c is = by (job_in s.jobs j) refl a
         let same : image_of_slot job slot ≡ image = cc in
         let live = stored_fresh s job slot allowed.1 in
         let slot_fresh = all_at (IsFreshSlot s.project job.project) job.slots at slot (job_of (IsFreshJob s.project)
-            s.jobs j job fresh there live.0) at_is in
-        subst (IsPainted s) same (record { number = j; job = job; job_is = there; view_is = refl; parts_are =
-            slot_fresh live.1 })
+        s.jobs j job fresh there live.0) at_is in
+        subst (IsPainted s) same (record {
+          number = j;
+          job = job;
+          job_is = there;
+          view_is = refl;
+          parts_are =
+              slot_fresh live.1;
+        })
+
     by : (o : Option Job) → job_in s.jobs j ≡ o → IsSomeAnd o (λ (job : Job). IsSomeAnd (slice_get job.slots at) (λ
         slot. (slot.standing ≡ Missed who) × (Stored ≡ fate_of s job slot)))
         → option_and_then (λ (job : Job). if job.canvas == c then option_map (image_of_slot job) (slice_get job.slots
@@ -325,8 +336,11 @@ put_in : (P : Cached → Type 0) (n : ℕ) (o : Option Cached) (cache : List Cac
     → P image)
     → AllByRecursion P cache → AllByRecursion P (option_map_or (λ image. put_front n image cache) o cache)
 put_in P n None cache new h = h
-put_in P n (Some image) cache new h = all_take P n _ (new image refl, all_dropped_first P (is_of image.layer) cache
-    h)
+put_in P n (Some image) cache new h = all_take P n _ (
+  new image refl,
+  all_dropped_first P (is_of image.layer) cache
+      h,
+)
 
 emptied : (P : Cached → Type 0) (a b : Bool) (cache : List Cached) → AllByRecursion P cache → AllByRecursion P (if a
     then (if b then cache else []) else cache)

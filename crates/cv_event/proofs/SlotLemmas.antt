@@ -81,6 +81,7 @@ open_task_is k job j at h = by job.ended refl h
     composed : (b : Bool) → (if b then Some (Compose k) else None) ≡ Some (Look j at) → ⊥
     composed true h = absurd cc
     composed false h = absurd cc
+
     of_open : (o : Option ℕ) → open_slot 0 job.slots ≡ o → task_behind k job o ≡ Some (Look j at) → job.ended ≡ None
         → (k ≡ j) × (job.ended ≡ None) × (open_slot 0 job.slots ≡ Some at)
     of_open None is h live = absurd (composed (all_ready job.slots && is_none job.composer) h)
@@ -88,6 +89,7 @@ open_task_is k job j at h = by job.ended refl h
         let same : n ≡ at = cc in
         let number : k ≡ j = cc in
         (number, live, is ∙ ap Some same)
+
     by : (e : Option How) → job.ended ≡ e → (if is_some e then None else task_behind k job (open_slot 0 job.slots)) ≡
         Some (Look j at)
         → (k ≡ j) × (job.ended ≡ None) × (open_slot 0 job.slots ≡ Some at)
@@ -130,7 +132,7 @@ task_slot_open s j at job slot due there is =
     let q = open_slot_is 0 r.job.slots at r.open_is in
     let place : at ≡ q.before = omega (arith, q.number) in
     let slot_is : slice_get job.slots at ≡ Some q.slot =
-        ap (λ (k : Job). slice_get k.slots at) same ∙ ap (slice_get r.job.slots) place ∙ q.slot_is in
+    ap (λ (k : Job). slice_get k.slots at) same ∙ ap (slice_get r.job.slots) place ∙ q.slot_is in
     ap (λ (x : Slot). is_open x.standing) (same_some (slice_get job.slots at) is slot_is) ∙ q.open_is
 
 -- ---- what an act does to a slot
@@ -183,8 +185,10 @@ slots_where : (b : Bool) (change : Job → Job) (job : Job) (at : ℕ) → (chan
 slots_where true change job at same = ap (λ xs. slice_get xs at) same ∙ map_same (slice_get job.slots at)
 slots_where false change job at same = map_same (slice_get job.slots at)
 
-edited_where : (b : Bool) (e : Edit) (job : Job) (at : ℕ) → slice_get (if b then job else record job { slots = map
-    (slot_edited job.project e) job.slots }).slots at ≡ option_map (λ slot. if b then slot else slot_edited
+edited_where : (b : Bool) (e : Edit) (job : Job) (at : ℕ) → slice_get (if b then job else record job {
+  slots = map
+      (slot_edited job.project e) job.slots;
+}).slots at ≡ option_map (λ slot. if b then slot else slot_edited
     job.project e slot) (slice_get job.slots at)
 edited_where true e job at = map_same (slice_get job.slots at)
 edited_where false e job at = at_map (slot_edited job.project e) job.slots at
@@ -295,9 +299,9 @@ delivery_missed s who j k i at job slot fate allowed there is a b =
     let number : k ≡ j = grind (arith, nat_tests) in
     let place : i ≡ at = grind (arith, nat_tests) in
     let of_job = subst (λ o. IsSomeAnd o (λ (job : Job). IsSomeAnd (slice_get job.slots i) (λ slot. (slot.standing ≡
-        Missed who) × (fate ≡ fate_of s job slot)))) (ap (job_in s.jobs) number ∙ there) allowed in
+    Missed who) × (fate ≡ fate_of s job slot)))) (ap (job_in s.jobs) number ∙ there) allowed in
     let of_slot = subst (λ o. IsSomeAnd o (λ (slot : Slot). (slot.standing ≡ Missed who) × (fate ≡ fate_of s job
-        slot))) (ap (slice_get job.slots) place ∙ is) of_job in
+    slot))) (ap (slice_get job.slots) place ∙ is) of_job in
     of_slot.0
 
 pub ready_one : (s : State) (j who : ℕ) (a : Act) (job : Job) (at : ℕ) (slot : Slot) → Allows s who a → job_in s.jobs
@@ -439,11 +443,14 @@ slot_more s (entry ∷ rest) j job at slot legal there is =
     let slot2 = slot_does j at job entry.caller entry.act slot in
     let there2 = after_one s entry.caller entry.act j job legal.0 there in
     let is2 : slice_get next.slots at ≡ Some slot2 =
-        slot_one j entry.caller entry.act job at ∙ ap (option_map (slot_does j at job entry.caller entry.act)) is in
+    slot_one j entry.caller entry.act job at ∙ ap (option_map (slot_does j at job entry.caller entry.act)) is in
     let more = slot_more (after s entry) rest j next at slot2 legal.1 there2 is2 in
     let layer2 = layer_one j entry.caller entry.act job at slot in
-    let project2 = fixed_one (λ (k : Job). k.project) (record { slots = λ job slots. refl; composer = λ job o. refl;
-        ended = λ job o. refl }) j entry.caller entry.act job in
+    let project2 = fixed_one (λ (k : Job). k.project) (record {
+      slots = λ job slots. refl;
+      composer = λ job o. refl;
+      ended = λ job o. refl;
+    }) j entry.caller entry.act job in
     record {
       now = more.now;
       is = more.is;
@@ -459,9 +466,9 @@ slot_more s (entry ∷ rest) j job at slot legal there is =
       touched = λ live.
           let ids = deps job.project slot.layer in
           let live2 : next.ended ≡ None = or_is_none next.ended (first_end next.canvas j rest) (sym (end_more j rest
-              next) ∙ live) in
+          next) ∙ live) in
           let live1 : job.ended ≡ None = or_is_none job.ended _ (sym (end_one j entry.caller entry.act job) ∙ live2)
-              in
+          in
           more.touched live
           ∙ (λ i. slot2.touched || list_any (λ e. touches_any e (deps (project2 i) (layer2 i))) (edits rest))
           ∙ ap (λ b. b || list_any (λ e. touches_any e ids) (edits rest)) (touched_one j entry.caller entry.act job
@@ -505,23 +512,23 @@ slot_now o past rest who c j at legal job slot there is =
         let b = began o past rest who c j legal in
         let first = new_job c (replay o past).project b.view in
         let same : job ≡ fold (job_does j) first rest = same_some (job_in (replay o (started_between past who c j
-            rest)).jobs j) there b.job_is in
+        rest)).jobs j) there b.job_is in
         let gone = slots_none j rest first at (at_map new_slot (slots (replay o past).project b.view) at ∙ ap
-            (option_map new_slot) none) in
+        (option_map new_slot) none) in
         absurd (some_none slot (sym is ∙ ap (λ (k : Job). slice_get k.slots at) same ∙ gone))
     by (Some l) some =
         let b = began o past rest who c j legal in
         let first = new_job c (replay o past).project b.view in
         let same : job ≡ fold (job_does j) first rest = same_some (job_in (replay o (started_between past who c j
-            rest)).jobs j) there b.job_is in
+        rest)).jobs j) there b.job_is in
         let more = slot_more (after (replay o past) (entry_of who (act.Start c j))) rest j first at (new_slot l)
-            b.legal b.new_is (at_map new_slot (slots (replay o past).project b.view) at ∙ ap (option_map new_slot)
-            some) in
+        b.legal b.new_is (at_map new_slot (slots (replay o past).project b.view) at ∙ ap (option_map new_slot)
+        some) in
         let now : slot ≡ more.now = same_some (slice_get job.slots at) is (ap (λ (k : Job). slice_get k.slots at)
-            same ∙ more.is) in
+        same ∙ more.is) in
         let project : job.project ≡ first.project = ap (λ (k : Job). k.project) same ∙ fixed_more (λ (k : Job).
-            k.project) (record { slots = λ job slots. refl; composer = λ job o. refl; ended = λ job o. refl }) j rest
-            first in
+        k.project) (record { slots = λ job slots. refl; composer = λ job o. refl; ended = λ job o. refl }) j rest
+        first in
         let layer : slot.layer ≡ l.core.id = ap (λ (x : Slot). x.layer) now ∙ more.layer in
         record {
           ready = ap (λ (x : Slot). is_ready x.standing) now ∙ more.ready;
@@ -551,8 +558,10 @@ stays_composer : (b : Bool) (change : Job → Job) (job : Job) → (change job).
 stays_composer true change job same = ap is_none same ∙ and_true (is_none job.composer)
 stays_composer false change job same = and_true (is_none job.composer)
 
-edited_composer : (b : Bool) (e : Edit) (job : Job) → (if b then job else record job { slots = map (slot_edited
-    job.project e) job.slots }).composer ≡ job.composer
+edited_composer : (b : Bool) (e : Edit) (job : Job) → (if b then job else record job {
+  slots = map (slot_edited
+      job.project e) job.slots;
+}).composer ≡ job.composer
 edited_composer true e job = refl
 edited_composer false e job = refl
 

@@ -126,6 +126,7 @@ cache_changed part change s j at c same = of_job (job_in s.jobs j)
         part (slice_get s.canvases c)
     of_slot job None = refl
     of_slot job (Some slot) = seen_same part _ s.canvases job.canvas c (same (change (image_of_slot job slot)))
+
     of_job : (o : Option Job) → option_and_then part (slice_get (option_map_or (λ (job : Job). option_map_or (λ slot.
         change_at job.canvas (with_cache (change (image_of_slot job slot))) s.canvases) (slice_get job.slots at)
         s.canvases) o s.canvases) c) ≡ option_and_then part (slice_get s.canvases c)

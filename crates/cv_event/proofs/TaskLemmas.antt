@@ -40,6 +40,7 @@ first_task k (suc m) (x ∷ xs) job is some others =
   where
     first : (k : ℕ) → k ≡ k + 0
     first k = omega arith
+
     next : (k i : ℕ) → suc k + i ≡ k + suc i
     next k i = omega arith
 

@@ -125,7 +125,6 @@ Legal opening past acts = LegalFrom (replay opening (own past)) (own acts)
 abbrev Refused : Opening → List Act → Act → Type 0
 Refused opening past a = Allows (replay opening (own past)) 0 a → ⊥
 
-
 -- ---- no layers
 
 pub no_layers_legal : Legal no_layers [] (View 0 small_view ∷ Start 0 1 ∷ Compose 1 ∷ Finish 1 ∷ Save 0 1 ∷ [])
@@ -153,9 +152,22 @@ abbrev again : List Act
 again = Start 0 2 ∷ Look 2 0 true ∷ Look 2 1 true ∷ Compose 2 ∷ Finish 2 ∷ Save 0 2 ∷ []
 
 pub first_job_legal : Legal two_layers [] finished
-first_job_legal =
-    ((first_is_view, refl, refl), ((refl, refl, omega arith), ((refl, refl), ((refl, refl), ((refl, refl),
-    ((refl, refl), (refl, ((refl, refl), tt))))))))
+first_job_legal = (
+  (first_is_view, refl, refl),
+  (
+    (refl, refl, omega arith),
+    (
+      (refl, refl),
+      (
+        (refl, refl),
+        (
+          (refl, refl),
+          ((refl, refl), (refl, ((refl, refl), tt))),
+        ),
+      ),
+    ),
+  ),
+)
 
 pub second_job_legal : Legal two_layers finished (Save 0 1 ∷ again)
 second_job_legal =
@@ -192,10 +204,49 @@ mask_emptied_rest =
 
 pub mask_emptied_legal : Legal two_layers viewed (accepted (RemoveFeature 3 1) ∷ Look 1 0 false ∷ mask_emptied_rest)
 unfolding verdict is_over most_edits
-mask_emptied_legal =
-    (refl, ((refl, refl), ((refl, refl), ((refl, refl), ((refl, refl), (refl, ((refl, refl),
-    ((refl, refl, omega arith), ((refl, refl), ((refl, refl), ((refl, refl), (refl, ((refl, refl), (refl,
-    tt))))))))))))))
+mask_emptied_legal = (
+  refl,
+  (
+    (refl, refl),
+    (
+      (refl, refl),
+      (
+        (refl, refl),
+        (
+          (refl, refl),
+          (
+            refl,
+            (
+              (refl, refl),
+              (
+                (refl, refl, omega arith),
+                (
+                  (refl, refl),
+                  (
+                    (refl, refl),
+                    (
+                      (refl, refl),
+                      (
+                        refl,
+                        (
+                          (refl, refl),
+                          (
+                            refl,
+                            tt,
+                          ),
+                        ),
+                      ),
+                    ),
+                  ),
+                ),
+              ),
+            ),
+          ),
+        ),
+      ),
+    ),
+  ),
+)
 
 pub stale_mask_stored : Refused two_layers mask_emptied (Deliver 1 0 Stored)
 stale_mask_stored h = absurd cc
@@ -238,9 +289,25 @@ superseded = viewed ++ Look 1 0 false ∷ Start 0 2 ∷ []
 
 pub superseded_legal : Legal two_layers viewed (Look 1 0 false ∷ Start 0 2 ∷ Deliver 1 0 Dropped
     ∷ Look 2 0 false ∷ Deliver 2 0 Stored ∷ Look 2 1 false ∷ Deliver 2 1 Stored ∷ Compose 2 ∷ Finish 2 ∷ [])
-superseded_legal =
-    ((refl, refl), ((refl, refl, omega arith), ((refl, refl), ((refl, refl), ((refl, refl), ((refl, refl),
-    ((refl, refl), (refl, ((refl, refl), tt)))))))))
+superseded_legal = (
+  (refl, refl),
+  (
+    (refl, refl, omega arith),
+    (
+      (refl, refl),
+      (
+        (refl, refl),
+        (
+          (refl, refl),
+          (
+            (refl, refl),
+            ((refl, refl), (refl, ((refl, refl), tt))),
+          ),
+        ),
+      ),
+    ),
+  ),
+)
 
 pub superseded_stored : Refused two_layers superseded (Deliver 1 0 Stored)
 superseded_stored h = absurd cc
@@ -278,9 +345,34 @@ remasked =
 pub remasked_legal : Legal two_layers finished (remasked ++ Look 2 0 false ∷ Deliver 2 0 Stored ∷ Look 2 1 true
     ∷ Compose 2 ∷ Finish 2 ∷ Save 0 2 ∷ [])
 unfolding verdict is_over most_edits
-remasked_legal =
-    (refl, (refl, (refl, (refl, ((refl, refl, omega arith), ((refl, refl), ((refl, refl), ((refl, refl), (refl,
-    ((refl, refl), (refl, tt)))))))))))
+remasked_legal = (
+  refl,
+  (
+    refl,
+    (
+      refl,
+      (
+        refl,
+        (
+          (refl, refl, omega arith),
+          (
+            (refl, refl),
+            (
+              (refl, refl),
+              (
+                (refl, refl),
+                (
+                  refl,
+                  ((refl, refl), (refl, tt)),
+                ),
+              ),
+            ),
+          ),
+        ),
+      ),
+    ),
+  ),
+)
 
 -- the image that depends on the mask is gone, and the other one stays
 pub kept_dependent : Refused two_layers (finished ++ remasked) (Look 2 0 true)
@@ -298,9 +390,31 @@ unmasked =
 
 pub unmasked_legal : Legal two_layers [] (unmasked ++ Deliver 1 0 Kept ∷ [])
 unfolding verdict is_over most_edits
-unmasked_legal =
-    ((first_is_view, refl, refl), (refl, ((refl, refl, omega arith), ((refl, refl), (refl, (refl, ((refl,
-    refl), tt)))))))
+unmasked_legal = (
+  (first_is_view, refl, refl),
+  (
+    refl,
+    (
+      (refl, refl, omega arith),
+      (
+        (refl, refl),
+        (
+          refl,
+          (
+            refl,
+            (
+              (
+                refl,
+                refl,
+              ),
+              tt,
+            ),
+          ),
+        ),
+      ),
+    ),
+  ),
+)
 
 pub unmasked_stored : Refused two_layers unmasked (Deliver 1 0 Stored)
 unmasked_stored h = absurd cc
@@ -321,9 +435,31 @@ one_image = opened all_scales 64
 
 pub one_image_legal : Legal one_image finished (Start 0 2 ∷ Look 2 0 false ∷ Deliver 2 0 Stored ∷ Look 2 1 false
     ∷ Deliver 2 1 Stored ∷ Compose 2 ∷ Finish 2 ∷ [])
-one_image_legal =
-    ((refl, refl, omega arith), ((refl, refl), ((refl, refl), ((refl, refl), ((refl, refl), (refl, ((refl,
-    refl), tt)))))))
+one_image_legal = (
+  (refl, refl, omega arith),
+  (
+    (refl, refl),
+    (
+      (refl, refl),
+      (
+        (refl, refl),
+        (
+          (refl, refl),
+          (
+            refl,
+            (
+              (
+                refl,
+                refl,
+              ),
+              tt,
+            ),
+          ),
+        ),
+      ),
+    ),
+  ),
+)
 
 pub cut_image_hit : Refused one_image (finished ++ Start 0 2 ∷ []) (Look 2 0 true)
 cut_image_hit h = absurd cc
@@ -384,9 +520,22 @@ panned = View 0 (view_from 2000000) ∷ Start 0 2 ∷ []
 pub panned_legal : Legal two_layers finished (panned ++ Look 2 0 false ∷ Deliver 2 0 Stored ∷ Look 2 1 false
     ∷ Deliver 2 1 Stored ∷ Compose 2 ∷ Finish 2 ∷ Save 0 2 ∷ [])
 unfolding pan_of
-panned_legal =
-    ((panned_is_view, refl, refl), ((refl, refl, omega arith), ((refl, refl), ((refl, refl), ((refl, refl),
-    ((refl, refl), (refl, ((refl, refl), (refl, tt)))))))))
+panned_legal = (
+  (panned_is_view, refl, refl),
+  (
+    (refl, refl, omega arith),
+    (
+      (refl, refl),
+      (
+        (refl, refl),
+        (
+          (refl, refl),
+          ((refl, refl), (refl, ((refl, refl), (refl, tt)))),
+        ),
+      ),
+    ),
+  ),
+)
 
 pub old_view_hit : Refused two_layers (finished ++ panned) (Look 2 0 true)
 unfolding pan_of
@@ -399,9 +548,19 @@ away_and_back = View 0 (view_from 18000000) ∷ View 0 (view_from 0) ∷ Start 0
 pub away_and_back_legal : Legal two_layers finished (away_and_back ++ Look 2 0 true ∷ Look 2 1 true ∷ Compose 2
     ∷ Finish 2 ∷ Save 0 2 ∷ [])
 unfolding pan_of
-away_and_back_legal =
-    ((far_is_view, refl, refl), ((first_is_view, refl, refl), ((refl, refl, omega arith), ((refl, refl),
-    ((refl, refl), (refl, ((refl, refl), (refl, tt))))))))
+away_and_back_legal = (
+  (far_is_view, refl, refl),
+  (
+    (first_is_view, refl, refl),
+    (
+      (refl, refl, omega arith),
+      (
+        (refl, refl),
+        ((refl, refl), (refl, ((refl, refl), (refl, tt)))),
+      ),
+    ),
+  ),
+)
 
 pub pan_empties : Refused two_layers (finished ++ away_and_back) (Look 2 0 false)
 unfolding pan_of

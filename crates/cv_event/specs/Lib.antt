@@ -2,4 +2,5 @@
 pub mod States
 pub mod Legality
 pub mod Histories
+pub mod Lines
 pub mod Laws

@@ -21,8 +21,8 @@ impl Model for Journal {
     ghost Value = { JournalParts };
 
     ghost view = { λ j. record {
-        entries = j.entries.items;
-        spare = vec_capacity j.entries - vec_len j.entries;
+      entries = j.entries.items;
+      spare = vec_capacity j.entries - vec_len j.entries;
     } };
 }
 
