@@ -7,3 +7,4 @@ pub mod SlotLemmas
 pub mod CacheLemmas
 pub mod PresentLemmas
 pub mod TaskLemmas
+pub mod LineLemmas

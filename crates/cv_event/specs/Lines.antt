@@ -104,6 +104,10 @@ act_words edits (act.Cancel job) = codes "cancel" ∷ decimal job ∷ []
 act_words edits (act.Preview job bits) = codes "preview" ∷ decimal job ∷ slots_word (listed_slots bits) ∷ []
 act_words edits (act.Save c job) = codes "save" ∷ decimal c ∷ decimal job ∷ []
 
+-- the first part of the end of a view's line: the act's word, the canvas and the corner
+abbrev pub corner_part : List ℕ → List ℕ → List ℕ → List ℕ
+corner_part canvas left top = 32 ∷ (codes "view" ++ 32 ∷ (canvas ++ 32 ∷ (left ++ 32 ∷ top)))
+
 -- how many edits stand up to an act, accepted or refused, where so many stand before it
 abbrev pub edits_with : ℕ → Act → ℕ
 edits_with edits (act.Edit e verdict) = edits + 1

@@ -1,6 +1,9 @@
 //! The text of a journal.
 
 ghost use Rattle.std.specs.Prelude.{◌≡◌, ℕ, ◌++◌, ◌∷◌, [], ◌≤◌, ◌+◌, length, IfOk, OnOk, string_bytes, decimal};
+ghost use Rattle.std.specs.Prelude.{codes, if◌then◌else◌, ◌<◌};
+ghost use Rattle.std.specs.Fmt.{signed_decimal};
+ghost use Rattle.cv_event.specs.Lines.{corner_part};
 ghost use Rattle.std.specs.List.{flat_map};
 ghost use Rattle.cv_event.specs.Lines.{ended, act_words, edits_with, entry_line, entry_lines, refused_line};
 ghost use Rattle.cv_event.specs.declared.entry.Act.TheVariants as act;
@@ -13,6 +16,16 @@ use crate::words::{fate_word, hit_word, reason_word, verdict_word};
 use cv_model::{NoMemory, View};
 use std::alloc::Global;
 
+/// Puts a slot behind others where it is set.
+fn push_where(slots: &mut Vec<u32>, slot: u32, is_set: bool) -> Result<(), NoMemory>
+    ensures { OnOk result (slots.new.items ≡ (if is_set then slots.old.items ++ slot ∷ [] else slots.old.items)) }
+{
+    if is_set {
+        slots.push(slot)?;
+    }
+    Ok(())
+}
+
 /// The slots that a preview lists, ascending.
 #[tactic(auto, unfolding(crate::specs::Lines::listed_slots))]
 fn listed_slots(alloc: Global, bits: u32) -> Result<Vec<u32>, NoMemory>
@@ -21,9 +34,7 @@ fn listed_slots(alloc: Global, bits: u32) -> Result<Vec<u32>, NoMemory>
     let mut slots = Vec::new(alloc);
     let mut rest = bits;
     for slot in 0..32u32 {
-        if rest % 2 == 1 {
-            slots.push(slot)?;
-        }
+        push_where(&mut slots, slot, rest % 2 == 1)?;
         rest /= 2;
     }
     Ok(slots)
@@ -73,13 +84,58 @@ fn push_piece(text: &mut Vec<u8>, piece: String) -> Result<(), NoMemory>
     Ok(())
 }
 
-/// The end of a view's line, behind its number and its caller.
-fn view_end(alloc: Global, canvas: u32, view: View) -> Result<String, NoMemory>
-    ensures { IfOk result (λ text. string_bytes text ≡ ended (act_words 0 (act.View canvas view))) }
+/// The first part of the end of a view's line, with its corner.
+fn corner_text(alloc: Global, canvas: u32, left: i64, top: i64) -> Result<String, NoMemory>
+    ensures { IfOk result (λ text. string_bytes text ≡ corner_part (decimal canvas) (signed_decimal left)
+        (signed_decimal top)) }
 {
-    let (left, top, unit, width, height) = (view.lx2, view.ty2, view.u, view.w, view.h);
-    let text = format!(in alloc; " view {canvas} {left} {top} {unit} {width} {height}\n")?;
+    let text = format!(in alloc; " view {canvas} {left} {top}")?;
     Ok(text)
+}
+
+/// The second part, with the side of its pixels and its size.
+fn size_text(alloc: Global, unit: i64, width: u32, height: u32) -> Result<String, NoMemory>
+    ensures { IfOk result (λ text. string_bytes text ≡ ended (signed_decimal unit ∷ decimal width
+        ∷ decimal height ∷ [])) }
+{
+    let text = format!(in alloc; " {unit} {width} {height}\n")?;
+    Ok(text)
+}
+
+/// Puts the end of a view's line, of its numbers, behind its number and its caller.
+fn push_numbers(
+    text: &mut Vec<u8>,
+    alloc: Global,
+    canvas: u32,
+    left: i64,
+    top: i64,
+    unit: i64,
+    size: (u32, u32),
+) -> Result<(), NoMemory>
+    ensures { OnOk result (text.new.items ≡ text.old.items ++ ended (codes "view" ∷ decimal canvas
+        ∷ signed_decimal left ∷ signed_decimal top ∷ signed_decimal unit ∷ decimal size.0
+        ∷ decimal size.1 ∷ [])) }
+{
+    let corner = corner_text(alloc, canvas, left, top)?;
+    push_piece(text, corner)?;
+    let size = size_text(alloc, unit, size.0, size.1)?;
+    push_piece(text, size)?;
+    Ok(())
+}
+
+/// Puts the end of a view's line behind its number and its caller.
+fn push_view_end(text: &mut Vec<u8>, alloc: Global, canvas: u32, view: View) -> Result<(), NoMemory>
+    ensures { OnOk result (text.new.items ≡ text.old.items ++ ended (act_words 0 (act.View canvas view))) }
+{
+    push_numbers(
+        text,
+        alloc,
+        canvas,
+        view.lx2,
+        view.ty2,
+        view.u,
+        (view.w, view.h),
+    )
 }
 
 /// Puts the end of a preview's line behind its number and its caller.
@@ -103,7 +159,7 @@ fn push_act_end(text: &mut Vec<u8>, alloc: Global, act: &Act, edits: u64) -> Res
             let word = verdict_word(*refusal);
             push_piece(text, format!(in alloc; " edit {edits} {word}\n")?)
         }
-        Act::View(canvas, view) => push_piece(text, view_end(alloc, *canvas, *view)?),
+        Act::View(canvas, view) => push_view_end(text, alloc, *canvas, *view),
         Act::Start(canvas, job) => push_piece(text, format!(in alloc; " start {canvas} {job}\n")?),
         Act::Look(job, slot, hit) => {
             let word = hit_word(*hit);
@@ -137,14 +193,15 @@ fn push_entry(
     push_act_end(text, alloc, &entry.act, edits)
 }
 
-/// Whether an act is an edit, as a number.
-fn edit_count(act: &Act) -> u64
-    ensures counted { (edits : ℕ) → edits_with edits act.now ≡ edits + result }
-    ensures most { result ≤ 1 }
+/// How many edits stand up to an act, where so many stand before it.
+fn edits_with(edits: u64, act: &Act) -> u64
+    requires { edits < 18446744073709551615 }
+    ensures counted { result ≡ edits_with edits act.now }
+    ensures most { result ≤ edits + 1 }
 {
     match act {
-        Act::Edit(_, _) => 1,
-        _ => 0,
+        Act::Edit(_, _) => edits + 1,
+        _ => edits,
     }
 }
 
@@ -154,10 +211,18 @@ fn push_entries(text: &mut Vec<u8>, alloc: Global, entries: &[Entry]) -> Result<
 {
     let mut edits = 0;
     for (index, entry) in entries.iter().enumerate() {
-        edits += edit_count(&entry.act);
+        edits = edits_with(edits, &entry.act);
         push_entry(text, alloc, index as u64 + 1, edits, entry)?;
     }
     Ok(())
+}
+
+/// Puts the line of a refused command behind a text.
+fn push_command(text: &mut Vec<u8>, alloc: Global, command: Refused) -> Result<(), NoMemory>
+    ensures { OnOk result (text.new.items ≡ text.old.items ++ refused_line command) }
+{
+    let (line, seen, word) = (command.line, command.seen, reason_word(command.reason));
+    push_piece(text, format!(in alloc; "refused {line} {seen} {word}\n")?)
 }
 
 /// Puts the lines of refused commands behind a text.
@@ -165,8 +230,7 @@ fn push_refused(text: &mut Vec<u8>, alloc: Global, refused: &[Refused]) -> Resul
     ensures { OnOk result (text.new.items ≡ text.old.items ++ flat_map refused_line refused.now) }
 {
     for command in refused {
-        let (line, seen, word) = (command.line, command.seen, reason_word(command.reason));
-        push_piece(text, format!(in alloc; "refused {line} {seen} {word}\n")?)?;
+        push_command(text, alloc, *command)?;
     }
     Ok(())
 }
