@@ -1,42 +1,26 @@
 -- A canvas's cache: what each act makes of it, and that its images are of the present parts.
-use Rattle.std.proofs.Common.{◌≡◌, ◌∙◌, sym, ap, refl, ℕ, zero, suc, ◌==◌, Bool, true, false, not, cond, ◌&&◌, ◌||◌}
-use Rattle.std.proofs.Common.{List, [], ◌∷◌, ◌++◌, map, filter, find, take, Option, Some, None, is_some, slice_get}
-use Rattle.std.proofs.Common.{option_map, option_and_then, option_to_list, IsSomeAnd, fold, arith, subst, IsSome}
+use Rattle.std.proofs.Common.{◌≡◌, ◌∙◌, sym, ap, refl, ℕ, zero, suc, ◌==◌, Bool, true, false}
+use Rattle.std.proofs.Common.{List, [], ◌∷◌, map, filter, Option, Some, None, slice_get}
+use Rattle.std.proofs.Common.{option_map, option_and_then}
 use Rattle.std.proofs.Common.{if◌then◌else◌}
-use Rattle.std.specs.List.{cons_option, AllByRecursion}
-use Rattle.std.specs.Option.{option_or, option_map_or}
-use Rattle.std.proofs.lemmas.Bool.Decides.{nat_tests}
-use Rattle.std.proofs.lemmas.Bool.{false≢true}
+use Rattle.std.specs.Option.{option_map_or}
 use Rattle.cv_model.specs.declared.edit.Edit.{Edit}
 use Rattle.cv_model.specs.declared.edit.EditError.{EditError}
 use Rattle.cv_model.specs.Views.{PixelGrid}
-use Rattle.cv_model.specs.Layers.{Core, Parts, Layer, Opening, Project, core_in, parts, parts_among, deps, deps_of}
-use Rattle.cv_model.specs.Layers.{slots}
-use Rattle.cv_model.specs.Edits.{step, touches_any}
-use Rattle.cv_model.proofs.LawLemmas.{untouched_parts_stay}
-use Rattle.cv_event.specs.declared.entry.Act.{Act}
+use Rattle.cv_model.specs.Layers.{Project}
 use Rattle.cv_event.specs.declared.entry.Act.TheVariants as act
-use Rattle.cv_event.specs.declared.entry.Entry.{Entry}
 use Rattle.cv_event.specs.declared.entry.Fate.{Fate}
 use Rattle.cv_event.specs.declared.entry.Fate.TheVariants.{Stored, Kept, Dropped}
-use Rattle.cv_event.specs.declared.entry.How.{How}
-use Rattle.cv_event.specs.declared.entry.How.TheVariants.{Finished, Cancelled, NoMemory}
 use Rattle.cv_event.specs.declared.slot.Slot.{Slot}
-use Rattle.cv_event.specs.declared.slot.Standing.{Standing}
-use Rattle.cv_event.specs.declared.slot.Standing.TheVariants.{Missed}
-use Rattle.cv_event.specs.States.{Job, Cached, Canvas, State, change_at, job_in, change_job, view_on, is_of}
-use Rattle.cv_event.specs.States.{drop_first, to_front, put_front, stays, slot_edited, job_edited, canvas_edited}
-use Rattle.cv_event.specs.States.{keeps_cache, canvas_viewed, with_end, cancelled_on, new_slot, new_job, started}
-use Rattle.cv_event.specs.States.{looked, delivered, slot_stands, stands_at, with_cache, image_of_slot, change_cache}
-use Rattle.cv_event.specs.States.{served, stored, canvases_looked, canvases_delivered, composed_by, publishes}
-use Rattle.cv_event.specs.States.{edit_made, did, after, new_canvas, begin, replay}
-use Rattle.cv_event.specs.Legality.{shows, is_fresh, on_canvas, is_taken, fate_of, Allows, LegalFrom, IsLegal}
-use Rattle.cv_event.specs.Histories.{accepted_edit, cached, capacity_on, image_on, cache_behind, IsPainted}
-use Rattle.cv_event.specs.Laws.{CacheOfOneCanvas, CachedImagesArePresent}
-use Rattle.cv_event.proofs.JobLemmas.{does, after_one}
-use Rattle.cv_event.proofs.EndLemmas.{IsFixed, fixed_one}
-use Rattle.cv_event.proofs.TakenLemmas.{project_one}
-use Rattle.cv_event.proofs.SlotLemmas.{changed, same_some}
+use Rattle.cv_event.specs.States.{Job, Cached, Canvas, State, change_at, job_in, view_on}
+use Rattle.cv_event.specs.States.{to_front, put_front, stays, canvas_edited}
+use Rattle.cv_event.specs.States.{keeps_cache, canvas_viewed, started}
+use Rattle.cv_event.specs.States.{with_cache, image_of_slot}
+use Rattle.cv_event.specs.States.{served, stored, canvases_looked, canvases_delivered, publishes}
+use Rattle.cv_event.specs.States.{edit_made}
+use Rattle.cv_event.specs.Histories.{cached, capacity_on, cache_behind}
+use Rattle.cv_event.specs.Laws.{CacheOfOneCanvas}
+use Rattle.cv_event.proofs.SlotLemmas.{changed}
 
 -- ---- the cache behind an act
 

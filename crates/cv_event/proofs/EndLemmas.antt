@@ -1,5 +1,5 @@
 -- How a job ends: the laws of ends.
-use Rattle.std.proofs.Common.{◌≡◌, ◌∙◌, sym, ap, refl, ℕ, ◌==◌, Bool, true, false, cond, List, [], ◌∷◌, ◌++◌}
+use Rattle.std.proofs.Common.{◌≡◌, ◌∙◌, sym, ap, refl, ℕ, ◌==◌, Bool, true, false, List, [], ◌∷◌}
 use Rattle.std.proofs.Common.{Option, Some, None, is_some, slice_get, option_and_then, IsSomeAnd, fold, arith}
 use Rattle.std.proofs.Common.{if◌then◌else◌, map, subst}
 use Rattle.std.specs.List.{AllByRecursion}
@@ -7,7 +7,6 @@ use Rattle.std.specs.Option.{option_or}
 use Rattle.std.proofs.lemmas.Bool.Decides.{nat_tests}
 use Rattle.cv_model.specs.declared.edit.Edit.{Edit}
 use Rattle.cv_model.specs.declared.edit.EditError.{EditError}
-use Rattle.cv_model.specs.Layers.{Opening}
 use Rattle.cv_event.specs.declared.entry.Act.{Act}
 use Rattle.cv_event.specs.declared.entry.Act.TheVariants as act
 use Rattle.cv_event.specs.declared.entry.Entry.{Entry}
@@ -18,14 +17,14 @@ use Rattle.cv_event.specs.declared.entry.How.TheVariants.{Finished, Cancelled, N
 use Rattle.cv_event.specs.declared.slot.Slot.{Slot}
 use Rattle.cv_event.specs.declared.slot.Standing.TheVariants.{Missed}
 use Rattle.cv_event.specs.States.{slot_edited}
-use Rattle.cv_event.specs.States.{Job, State, job_in, job_edited, with_end, cancelled_on, new_job, looked}
-use Rattle.cv_event.specs.States.{delivered, stands_at, composed_by, did, after, begin, replay}
-use Rattle.cv_event.specs.Legality.{Allows, LegalFrom, IsLegal, OfJob, OfSlot, how, fate_of}
+use Rattle.cv_event.specs.States.{Job, State, job_in, job_edited, with_end, new_job, looked}
+use Rattle.cv_event.specs.States.{delivered, stands_at, composed_by, after, begin, replay}
+use Rattle.cv_event.specs.Legality.{Allows, LegalFrom, how, fate_of}
 use Rattle.cv_event.specs.Histories.{ends, first_end}
-use Rattle.cv_event.specs.Laws.{entry_of, started_between, EndIsFirst, EndsStay, IsVoid, EndedJobsAreVoid}
+use Rattle.cv_event.specs.Laws.{entry_of, EndIsFirst, EndsStay, IsVoid, EndedJobsAreVoid}
 use Rattle.cv_event.specs.Laws.{CancelledJobsAreVoid, SupersededJobsAreVoid}
-use Rattle.cv_event.proofs.JobLemmas.{on_job, edit_does, does, job_does, after_one, job_after, legal_parts}
-use Rattle.cv_event.proofs.JobLemmas.{replayed, Began, began}
+use Rattle.cv_event.proofs.JobLemmas.{edit_does, does, job_does, after_one, job_after, legal_parts}
+use Rattle.cv_event.proofs.JobLemmas.{replayed, began}
 
 -- ---- an end and an act
 

@@ -1,10 +1,8 @@
 -- The text of a journal grows by a slot, by a line.
-use Rattle.std.proofs.Common.{◌≡◌, ◌∙◌, sym, ap, refl, ℕ, suc, ◌+◌, ◌-◌, ◌/◌, ◌%◌, ◌<◌, ◌==◌, Bool, true, false}
-use Rattle.std.proofs.Common.{List, [], ◌∷◌, ◌++◌, append_assoc, arith, if◌then◌else◌, drop, get_or, length}
-use Rattle.std.proofs.lemmas.List.{at_drop_more}
-use Rattle.cv_event.specs.declared.entry.Entry.{Entry}
+use Rattle.std.proofs.Common.{◌≡◌, ◌∙◌, ap, refl, ℕ, suc, ◌+◌, ◌-◌, ◌/◌, ◌%◌, ◌<◌, ◌==◌, Bool, true, false}
+use Rattle.std.proofs.Common.{List, [], ◌∷◌, ◌++◌, append_assoc, arith, if◌then◌else◌}
 use Rattle.std.specs.Prelude.{codes}
-use Rattle.cv_event.specs.Lines.{ended, corner_part, set_bits, edits_with, entry_line, entry_lines}
+use Rattle.cv_event.specs.Lines.{ended, corner_part, set_bits}
 
 -- the slots behind a bit, and those of the bits that are left
 pub set_bits_more : (xs : List ℕ) (k bits : ℕ) → k < 32

@@ -1,16 +1,16 @@
 -- What stands in a cache was painted of the present parts of its layer.
 use Rattle.std.proofs.Common.{◌≡◌, ◌∙◌, sym, ap, refl, ℕ, zero, suc, ◌==◌, Bool, true, false, not, cond, ◌&&◌, ◌||◌}
 use Rattle.std.proofs.Common.{List, [], ◌∷◌, ◌++◌, map, filter, find, take, Option, Some, None, is_some, slice_get}
-use Rattle.std.proofs.Common.{option_map, option_and_then, option_to_list, IsSomeAnd, fold, arith, subst, IsSome}
+use Rattle.std.proofs.Common.{option_map, option_and_then, option_to_list, IsSomeAnd, fold, subst}
 use Rattle.std.proofs.Common.{if◌then◌else◌}
-use Rattle.std.specs.List.{cons_option, AllByRecursion}
+use Rattle.std.specs.List.{AllByRecursion}
 use Rattle.std.specs.Option.{option_or, option_map_or}
 use Rattle.std.proofs.lemmas.Bool.{false≢true}
 use Rattle.cv_model.specs.declared.edit.Edit.{Edit}
 use Rattle.cv_model.specs.declared.edit.EditError.{EditError}
 use Rattle.cv_model.specs.declared.project.CanvasSpec.{CanvasSpec}
 use Rattle.cv_model.specs.Views.{PixelGrid}
-use Rattle.cv_model.specs.Layers.{Core, Parts, Layer, Opening, Project, core_in, parts, parts_among, deps, deps_of}
+use Rattle.cv_model.specs.Layers.{Core, Parts, Layer, Project, core_in, parts, parts_among, deps, deps_of}
 use Rattle.cv_model.specs.Layers.{slots}
 use Rattle.cv_model.specs.Edits.{step, touches_any}
 use Rattle.cv_model.proofs.LawLemmas.{untouched_parts_stay}
@@ -28,13 +28,12 @@ use Rattle.cv_event.specs.States.{Job, Cached, Canvas, State, change_at, job_in,
 use Rattle.cv_event.specs.States.{drop_first, to_front, put_front, stays, slot_edited, job_edited, keeps_cache}
 use Rattle.cv_event.specs.States.{with_end, cancelled_on, new_slot, new_job, started, looked, delivered}
 use Rattle.cv_event.specs.States.{slot_stands, stands_at, image_of_slot, composed_by, edit_made, did, after}
-use Rattle.cv_event.specs.States.{new_canvas, begin, replay}
-use Rattle.cv_event.specs.Legality.{shows, is_fresh, on_canvas, is_taken, fate_of, Allows, LegalFrom, IsLegal}
-use Rattle.cv_event.specs.Histories.{accepted_edit, cached, capacity_on, image_on, cache_behind, IsPainted}
+use Rattle.cv_event.specs.States.{new_canvas, begin}
+use Rattle.cv_event.specs.Legality.{shows, is_fresh, on_canvas, is_taken, fate_of, Allows, LegalFrom}
+use Rattle.cv_event.specs.Histories.{cached, capacity_on, image_on, cache_behind, IsPainted}
 use Rattle.cv_event.specs.Laws.{CachedImagesArePresent}
 use Rattle.cv_event.proofs.JobLemmas.{does, after_one}
 use Rattle.cv_event.proofs.EndLemmas.{IsFixed, fixed_one}
-use Rattle.cv_event.proofs.SlotLemmas.{same_some}
 use Rattle.cv_event.proofs.TakenLemmas.{project_one}
 use Rattle.cv_event.proofs.CacheLemmas.{cache_of_one_canvas}
 

@@ -1,14 +1,14 @@
 -- The slots of a job behind a journal: laws of looks, deliveries, edits and compositions.
-use Rattle.std.proofs.Common.{◌≡◌, ◌∙◌, sym, ap, refl, ℕ, zero, suc, ◌+◌, ◌==◌, Bool, true, false, not, cond, ◌&&◌}
-use Rattle.std.proofs.Common.{◌||◌, List, [], ◌∷◌, ◌++◌, map, Option, Some, None, is_some, is_none, slice_get}
-use Rattle.std.proofs.Common.{option_map, option_and_then, IsSomeAnd, fold, arith, if◌then◌else◌, subst}
+use Rattle.std.proofs.Common.{◌≡◌, ◌∙◌, sym, ap, refl, ℕ, zero, suc, ◌+◌, ◌==◌, Bool, true, false, not, ◌&&◌}
+use Rattle.std.proofs.Common.{◌||◌, List, [], ◌∷◌, map, Option, Some, None, is_some, is_none, slice_get}
+use Rattle.std.proofs.Common.{option_map, IsSomeAnd, fold, arith, if◌then◌else◌, subst}
 use Rattle.std.specs.List.{cons_option, list_any}
-use Rattle.std.specs.Option.{option_or, option_map_or}
+use Rattle.std.specs.Option.{option_or}
 use Rattle.std.proofs.lemmas.Bool.Decides.{nat_tests}
 use Rattle.std.proofs.lemmas.Bool.{false≢true}
 use Rattle.cv_model.specs.declared.edit.Edit.{Edit}
 use Rattle.cv_model.specs.declared.edit.EditError.{EditError}
-use Rattle.cv_model.specs.Layers.{Layer, Opening, Project, deps, slots}
+use Rattle.cv_model.specs.Layers.{Layer, Opening, deps, slots}
 use Rattle.cv_model.specs.Edits.{touches_any}
 use Rattle.cv_event.specs.declared.entry.Act.{Act}
 use Rattle.cv_event.specs.declared.entry.Act.TheVariants as act
@@ -22,18 +22,18 @@ use Rattle.cv_event.specs.declared.slot.Standing.{Standing}
 use Rattle.cv_event.specs.declared.slot.Standing.TheVariants.{Open, Missed, Ready, Lost}
 use Rattle.cv_event.specs.declared.slot.Task.{Task}
 use Rattle.cv_event.specs.declared.slot.Task.TheVariants.{Look, Compose}
-use Rattle.cv_event.specs.States.{Job, State, change_at, job_in, slot_edited, job_edited, with_end, cancelled_on}
-use Rattle.cv_event.specs.States.{new_slot, new_job, looked, delivered, slot_stands, stands_at, composed_by, did}
-use Rattle.cv_event.specs.States.{after, begin, replay}
-use Rattle.cv_event.specs.Legality.{OfJob, OfSlot, is_ready, is_open, open_slot, all_ready, task_behind}
+use Rattle.cv_event.specs.States.{Job, State, change_at, job_in, slot_edited, with_end}
+use Rattle.cv_event.specs.States.{new_slot, new_job, looked, delivered, slot_stands, stands_at, composed_by}
+use Rattle.cv_event.specs.States.{after, replay}
+use Rattle.cv_event.specs.Legality.{is_ready, is_open, open_slot, all_ready, task_behind}
 use Rattle.cv_event.specs.Legality.{open_task, task_from, task, fate_of, Allows, LegalFrom, IsLegal}
 use Rattle.cv_event.specs.Histories.{accepted_edit, edits, looks_at, is_kept, makes_ready, composes, some_act}
 use Rattle.cv_event.specs.Histories.{first_end}
 use Rattle.cv_event.specs.Laws.{entry_of, started_between, SlotsAreAsLooked, TouchedByEdits}
 use Rattle.cv_event.specs.Laws.{ComposerIsOfCompose}
-use Rattle.cv_event.proofs.JobLemmas.{at_map, does, edit_does, job_does, after_one, Began, began, zero_suc}
+use Rattle.cv_event.proofs.JobLemmas.{at_map, does, edit_does, job_does, after_one, began, zero_suc}
 use Rattle.cv_event.proofs.JobLemmas.{suc_zero, suc_suc}
-use Rattle.cv_event.proofs.EndLemmas.{IsFixed, fixed_one, fixed_more, end_more, end_one}
+use Rattle.cv_event.proofs.EndLemmas.{fixed_one, fixed_more, end_more, end_one}
 
 -- ---- the slot that is to be looked at
 

@@ -1,12 +1,10 @@
 -- The project, the views and what jobs take: laws of edits, views and starts.
-use Rattle.std.proofs.Common.{◌≡◌, ◌∙◌, sym, ap, refl, ℕ, zero, suc, ◌==◌, Bool, true, false, cond, List, [], ◌∷◌}
-use Rattle.std.proofs.Common.{◌++◌, map, length, take, Option, Some, None, is_some, slice_get, option_map, subst}
-use Rattle.std.proofs.Common.{option_and_then, IsSomeAnd, fold, filter_map, arith, if◌then◌else◌, take_at, take_all}
+use Rattle.std.proofs.Common.{◌≡◌, ◌∙◌, sym, ap, refl, ℕ, zero, suc, ◌==◌, Bool, true, false, List, [], ◌∷◌}
+use Rattle.std.proofs.Common.{◌++◌, map, length, Option, Some, None, slice_get, option_map}
+use Rattle.std.proofs.Common.{option_and_then, IsSomeAnd, fold, if◌then◌else◌, take_at, take_all}
 use Rattle.std.proofs.Common.{le_refl}
 use Rattle.std.specs.List.{cons_option}
 use Rattle.std.specs.Option.{option_or, option_map_or}
-use Rattle.std.proofs.lemmas.Bool.Decides.{nat_tests}
-use Rattle.std.proofs.lemmas.List.Sums.{fold-append}
 use Rattle.cv_model.specs.declared.edit.Edit.{Edit}
 use Rattle.cv_model.specs.declared.edit.EditError.{EditError}
 use Rattle.cv_model.specs.declared.project.CanvasSpec.{CanvasSpec}
@@ -22,13 +20,13 @@ use Rattle.cv_event.specs.declared.entry.Fate.TheVariants.{Stored, Kept, Dropped
 use Rattle.cv_event.specs.declared.slot.Slot.{Slot}
 use Rattle.cv_event.specs.States.{Taken, Job, Cached, Canvas, State, change_at, job_in, view_on, canvas_edited}
 use Rattle.cv_event.specs.States.{canvas_viewed, started, new_job, taken_of, with_cache, image_of_slot}
-use Rattle.cv_event.specs.States.{change_cache, canvases_looked, canvases_delivered, canvases_finished, publishes}
+use Rattle.cv_event.specs.States.{change_cache, canvases_looked, canvases_delivered, publishes}
 use Rattle.cv_event.specs.States.{served, stored, edit_made, did, after, new_canvas, begin, replay}
-use Rattle.cv_event.specs.Legality.{Allows, LegalFrom, IsLegal}
-use Rattle.cv_event.specs.Histories.{accepted_edit, edits, view_given, last_view, taken, image}
+use Rattle.cv_event.specs.Legality.{Allows, LegalFrom}
+use Rattle.cv_event.specs.Histories.{accepted_edit, edits, view_given, last_view}
 use Rattle.cv_event.specs.Laws.{entry_of, started_between, ProjectIsOfEdits, ViewIsLast, JobTakesThePresent}
 use Rattle.cv_event.specs.Laws.{ImageIsOfTheTaken}
-use Rattle.cv_event.proofs.JobLemmas.{job_does, legal_parts, replayed, at_map, Began, began, zero_suc, suc_zero}
+use Rattle.cv_event.proofs.JobLemmas.{legal_parts, began, zero_suc, suc_zero}
 use Rattle.cv_event.proofs.JobLemmas.{suc_suc}
 use Rattle.cv_event.proofs.EndLemmas.{or_none, or_more, IsFixed, fixed_more}
 

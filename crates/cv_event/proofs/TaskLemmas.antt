@@ -1,16 +1,14 @@
 -- The task that is due: laws of the first job and of the least slot.
-use Rattle.std.proofs.Common.{◌≡◌, ◌∙◌, sym, ap, refl, ℕ, zero, suc, ◌+◌, ◌<◌, Bool, true, false, cond, ◌&&◌, List, []}
+use Rattle.std.proofs.Common.{◌≡◌, ◌∙◌, sym, ap, refl, ℕ, zero, suc, ◌+◌, ◌<◌, true, false, ◌&&◌, List, []}
 use Rattle.std.proofs.Common.{◌∷◌, Option, Some, None, is_some, is_none, slice_get, arith, if◌then◌else◌}
-use Rattle.std.specs.List.{list_all}
 use Rattle.std.specs.Option.{option_or}
 use Rattle.std.proofs.lemmas.Bool.{false≢true}
 use Rattle.cv_event.specs.declared.entry.How.{How}
 use Rattle.cv_event.specs.declared.slot.Slot.{Slot}
 use Rattle.cv_event.specs.declared.slot.Standing.{Standing}
 use Rattle.cv_event.specs.declared.slot.Standing.TheVariants.{Open, Missed, Ready, Lost}
-use Rattle.cv_event.specs.declared.slot.Task.{Task}
-use Rattle.cv_event.specs.declared.slot.Task.TheVariants.{Look, Compose}
-use Rattle.cv_event.specs.States.{Job, State, job_in}
+use Rattle.cv_event.specs.declared.slot.Task.TheVariants.{Compose}
+use Rattle.cv_event.specs.States.{Job}
 use Rattle.cv_event.specs.Legality.{is_ready, is_open, open_slot, all_ready, task_behind, open_task, task_from}
 use Rattle.cv_event.specs.Laws.{TaskIsOfTheFirst, TaskIsLeastSlot, ComposeIsDue}
 

@@ -1,7 +1,6 @@
 -- Worked journals: each is legal by computing it, and behind each a wrong act isn't allowed.
-use Rattle.std.proofs.Common.{◌≡◌, refl, sym, ℕ, ◌*◌, ◌≤◌, Bool, true, false, List, [], ◌∷◌, ◌++◌, map, pos, Option}
+use Rattle.std.proofs.Common.{refl, ℕ, ◌*◌, Bool, true, false, List, [], ◌∷◌, ◌++◌, map, pos, Option}
 use Rattle.std.proofs.Common.{Some, None, arith}
-use Rattle.std.specs.Prelude.{fold}
 use Rattle.std.proofs.lemmas.Bool.{false≢true}
 use Rattle.cv_model.specs.declared.blend.Blend.{Blend}
 use Rattle.cv_model.specs.declared.blend.Blend.TheVariants.{Normal, Multiply}
@@ -29,8 +28,8 @@ use Rattle.cv_event.specs.declared.entry.Act.TheVariants.{Preview, Save}
 use Rattle.cv_event.specs.declared.entry.Act.TheVariants as act
 use Rattle.cv_event.specs.declared.entry.Entry.{Entry}
 use Rattle.cv_event.specs.declared.entry.Fate.TheVariants.{Stored, Kept, Dropped}
-use Rattle.cv_event.specs.States.{after, replay}
-use Rattle.cv_event.specs.Legality.{Allows, IsLegal, LegalFrom}
+use Rattle.cv_event.specs.States.{replay}
+use Rattle.cv_event.specs.Legality.{Allows, LegalFrom}
 
 -- ---- openings
 

@@ -1,10 +1,8 @@
 -- What holds of legal journals, in the words of their entries: laws, each the clause of a function of its
 -- name. A job's own entries are those behind its start.
-use Rattle.std.specs.Prelude.{◌≡◌, ℕ, ◌==◌, Bool, true, false, not, ◌&&◌, ◌||◌, List, [], ◌∷◌, ◌++◌, length}
-use Rattle.std.specs.Prelude.{slice_get, Option, Some, None, option_map, IsSomeAnd, is_some, is_none, ◌<◌}
+use Rattle.std.specs.Prelude.{◌≡◌, ℕ, true, false, not, List, ◌∷◌, ◌++◌, length}
+use Rattle.std.specs.Prelude.{slice_get, Some, None, option_map, is_some, is_none, ◌<◌}
 use Rattle.std.specs.List.{list_any, AllByRecursion}
-use Rattle.cv_model.specs.declared.edit.Edit.{Edit}
-use Rattle.cv_model.specs.Views.{PixelGrid}
 use Rattle.cv_model.specs.Layers.{Opening, deps}
 use Rattle.cv_model.specs.Edits.{project_at, touches_any}
 use Rattle.cv_model.specs.Pictures.{picture_with}
@@ -15,8 +13,8 @@ use Rattle.cv_event.specs.declared.entry.Fate.TheVariants.{Dropped}
 use Rattle.cv_event.specs.declared.entry.How.{How}
 use Rattle.cv_event.specs.declared.slot.Slot.{Slot}
 use Rattle.cv_event.specs.declared.slot.Task.TheVariants.{Look, Compose}
-use Rattle.cv_event.specs.States.{Taken, Job, State, job_in, view_on, did, replay}
-use Rattle.cv_event.specs.Legality.{OfJob, OfSlot, how, is_open, is_ready, open_task, task, IsLegal}
+use Rattle.cv_event.specs.States.{Job, State, job_in, view_on, did, replay}
+use Rattle.cv_event.specs.Legality.{OfJob, how, is_open, is_ready, open_task, task, IsLegal}
 use Rattle.cv_event.specs.Histories.{edits, last_view, taken, image, first_end, looks_at, makes_ready}
 use Rattle.cv_event.specs.Histories.{composes, some_act, cached, cache_behind, IsPainted}
 

@@ -1,9 +1,9 @@
 -- Which entries are allowed after those before them: what is due, what is fresh, and the table of acts.
 --
 -- Source: this project's own.
-use Rattle.std.specs.Prelude.{◌≡◌, ℕ, zero, suc, ◌+◌, ◌*◌, ◌/◌, ◌%◌, ◌==◌, ◌≤◌, Bool, true, false, not, ◌&&◌}
+use Rattle.std.specs.Prelude.{◌≡◌, ℕ, suc, ◌+◌, ◌*◌, ◌==◌, ◌≤◌, Bool, true, false, not, ◌&&◌}
 use Rattle.std.specs.Prelude.{if◌then◌else◌, List, [], ◌∷◌, length, slice_get, Option, Some, None, is_some, is_none}
-use Rattle.std.specs.Prelude.{option_map, option_and_then, IsSome, IsSomeAnd}
+use Rattle.std.specs.Prelude.{option_and_then, IsSome, IsSomeAnd}
 use Rattle.std.specs.List.{list_any, list_all}
 use Rattle.std.specs.Ordering.{int_eq}
 use Rattle.std.specs.Option.{option_map_or, option_or}
@@ -22,7 +22,7 @@ use Rattle.cv_event.specs.declared.slot.Standing.{Standing}
 use Rattle.cv_event.specs.declared.slot.Standing.TheVariants.{Open, Missed, Ready, Lost}
 use Rattle.cv_event.specs.declared.slot.Task.{Task}
 use Rattle.cv_event.specs.declared.slot.Task.TheVariants.{Look, Compose}
-use Rattle.cv_event.specs.States.{Taken, Job, Cached, Canvas, State, job_in, view_on, after, begin}
+use Rattle.cv_event.specs.States.{Job, Cached, Canvas, State, job_in, view_on, after, begin}
 
 -- ---- facts of a job, and of a slot of a job
 

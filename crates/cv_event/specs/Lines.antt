@@ -6,7 +6,6 @@ use Rattle.std.specs.Prelude.{◌++◌, length, flat_map, codes, decimal, Option
 use Rattle.std.specs.Fmt.{signed_decimal}
 use Rattle.cv_model.specs.declared.edit.EditError.{EditError}
 use Rattle.cv_model.specs.declared.edit.EditError.TheVariants as error
-use Rattle.cv_model.specs.Views.{PixelGrid}
 use Rattle.cv_event.specs.declared.entry.Act.{Act}
 use Rattle.cv_event.specs.declared.entry.Act.TheVariants as act
 use Rattle.cv_event.specs.declared.entry.Entry.{Entry}

@@ -3,16 +3,15 @@
 -- Source: in outline the developer documentation of QGIS (`QgsMapRendererParallelJob`, `QgsMapRendererCache`): a job with
 -- an image for each layer, cancel, a cache of layer images with their dependencies. All rules are this
 -- project's own.
-use Rattle.std.specs.Prelude.{ℕ, zero, suc, ◌==◌, Bool, true, false, not, ◌&&◌, ◌||◌, if◌then◌else◌, List, []}
+use Rattle.std.specs.Prelude.{ℕ, zero, suc, ◌==◌, Bool, true, false, not, ◌||◌, if◌then◌else◌, List, []}
 use Rattle.std.specs.Prelude.{◌∷◌, ◌++◌, map, filter, find, fold, take, slice_get, Option, Some, None}
-use Rattle.std.specs.Prelude.{is_some, option_map, option_and_then, option_to_list}
-use Rattle.std.specs.Ordering.{int_eq}
+use Rattle.std.specs.Prelude.{is_some, option_and_then, option_to_list}
 use Rattle.std.specs.Option.{option_map_or, option_or}
 use Rattle.cv_model.specs.declared.edit.Edit.{Edit}
 use Rattle.cv_model.specs.declared.edit.EditError.{EditError}
 use Rattle.cv_model.specs.declared.project.CanvasSpec.{CanvasSpec}
 use Rattle.cv_model.specs.Views.{PixelGrid}
-use Rattle.cv_model.specs.Pans.{are_alike, is_pan}
+use Rattle.cv_model.specs.Pans.{is_pan}
 use Rattle.cv_model.specs.Layers.{Layer, Project, Opening, deps, slots}
 use Rattle.cv_model.specs.Edits.{step, touches_any}
 use Rattle.cv_event.specs.declared.entry.Act.{Act}

@@ -1,4 +1,4 @@
-use Rattle.std.proofs.Common.{◌≡◌, ◌∙◌, ap, ◌++◌, ◌-◌, ◌+◌, ◌/◌, tests, rules}
+use Rattle.std.proofs.Common.{◌∙◌, ap, ◌++◌, ◌-◌, ◌+◌, ◌/◌, tests, rules}
 use Rattle.cv_event.specs.Lines.{set_bits}
 use Rattle.cv_event.proofs.LineLemmas.{set_bits_more}
 use Rattle.cv_event.proofs.lines.listed_slots.Goals as goal

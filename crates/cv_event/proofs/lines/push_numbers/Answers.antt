@@ -1,4 +1,4 @@
-use Rattle.std.proofs.Common.{◌≡◌, ◌∙◌, ap, ◌++◌, decimal, w64}
+use Rattle.std.proofs.Common.{◌∙◌, ap, ◌++◌, decimal, w64}
 use Rattle.std.specs.Fmt.{signed_decimal}
 use Rattle.std.proofs.lemmas.Int.{to_z-of_z}
 use Rattle.cv_event.proofs.LineLemmas.{view_joined}

@@ -1,4 +1,4 @@
-use Rattle.std.proofs.Common.{◌≡◌, w64, FitsSigned, rules}
+use Rattle.std.proofs.Common.{w64, FitsSigned, rules}
 use Rattle.std.proofs.lemmas.Int.{to_z-of_z}
 use Rattle.cv_event.proofs.lines.push_view_end.Goals as goal
 
