@@ -1,0 +1,10 @@
+-- Lemmas on journals, for the proofs of all crates.
+pub mod WorkedJournals
+pub mod JobLemmas
+pub mod EndLemmas
+pub mod TakenLemmas
+pub mod SlotLemmas
+pub mod CacheLemmas
+pub mod PresentLemmas
+pub mod TaskLemmas
+pub mod LineLemmas

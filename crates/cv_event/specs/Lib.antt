@@ -1,0 +1,6 @@
+-- The definitions of journals, in reading order.
+pub mod States
+pub mod Legality
+pub mod Histories
+pub mod Lines
+pub mod Laws

@@ -1,0 +1,93 @@
+//! Laws of legal journals, each the clause of a call that does nothing.
+
+ghost use Rattle.cv_event.specs.Laws.{ProjectIsOfEdits, ViewIsLast, JobTakesThePresent, ImageIsOfTheTaken};
+ghost use Rattle.cv_event.specs.Laws.{EndIsFirst, EndsStay, EndedJobsAreVoid, CancelledJobsAreVoid};
+ghost use Rattle.cv_event.specs.Laws.{SupersededJobsAreVoid, SlotsAreAsLooked, TouchedByEdits};
+ghost use Rattle.cv_event.specs.Laws.{ComposerIsOfCompose, CacheOfOneCanvas, CachedImagesArePresent};
+ghost use Rattle.cv_event.specs.Laws.{TaskIsOfTheFirst, TaskIsLeastSlot, ComposeIsDue};
+
+/// The present project is that of the opening behind all accepted edits.
+pub fn project_is_of_edits()
+    ensures { ProjectIsOfEdits }
+{}
+
+/// A canvas's present view is its last one.
+pub fn view_is_last()
+    ensures { ViewIsLast }
+{}
+
+/// A job takes the project behind the edits accepted before its start, and its canvas's last view before it.
+pub fn job_takes_the_present()
+    ensures { JobTakesThePresent }
+{}
+
+/// An image of a job is the picture of the project and the view that it took.
+pub fn image_is_of_the_taken()
+    ensures { ImageIsOfTheTaken }
+{}
+
+/// A job's end is the first finish, fail or cancel of it, or start on its canvas, behind its start.
+pub fn end_is_first()
+    ensures { EndIsFirst }
+{}
+
+/// An end never changes.
+pub fn ends_stay()
+    ensures { EndsStay }
+{}
+
+/// From its end on, a job publishes and stores nothing.
+pub fn ended_jobs_are_void()
+    ensures { EndedJobsAreVoid }
+{}
+
+/// From its cancel on, a job publishes and stores nothing.
+pub fn cancelled_jobs_are_void()
+    ensures { CancelledJobsAreVoid }
+{}
+
+/// From a later start on its canvas on, a job publishes and stores nothing.
+pub fn superseded_jobs_are_void()
+    ensures { SupersededJobsAreVoid }
+{}
+
+/// A slot is open where no look at it stands, and ready where a hit or a delivery stands that was stored or
+/// kept.
+pub fn slots_are_as_looked()
+    ensures { SlotsAreAsLooked }
+{}
+
+/// A slot of a job without end is touched where an edit behind the start touches one of its dependencies.
+pub fn touched_by_edits()
+    ensures { TouchedByEdits }
+{}
+
+/// Somebody composes a job's picture where its compose stands.
+pub fn composer_is_of_compose()
+    ensures { ComposerIsOfCompose }
+{}
+
+/// A canvas's cache is changed by each act as the definition says, whatever the other canvases hold.
+pub fn cache_of_one_canvas()
+    ensures { CacheOfOneCanvas }
+{}
+
+/// What stands in a cache was painted of the present parts of its layer.
+pub fn cached_images_are_present()
+    ensures { CachedImagesArePresent }
+{}
+
+/// The task is that of the first job that has one.
+pub fn task_is_of_the_first()
+    ensures { TaskIsOfTheFirst }
+{}
+
+/// A job without end has its least open slot as its task.
+pub fn task_is_least_slot()
+    ensures { TaskIsLeastSlot }
+{}
+
+/// A job without end whose slots are all ready has its composition as its task, once.
+pub fn compose_is_due()
+    ensures { ComposeIsDue }
+{}
