@@ -8,6 +8,7 @@
 mod between;
 mod dots;
 mod outlines;
+mod rows;
 mod sides;
 mod strokes;
 

@@ -8,6 +8,7 @@
 #![tactic(auto)]
 
 mod fills;
+mod marks;
 mod reaches;
 mod row;
 mod runs;
