@@ -1,8 +1,7 @@
-use Rattle.std.proofs.Common.{◌≡◌, ℕ, ◌+◌, ◌<◌, ◌≤◌, ◌⊎◌, inl, inr, Bool, false, option_to_list, w64, FitsSigned, rules, arith}
+use Rattle.std.proofs.Common.{◌<◌, inl, inr, option_to_list, w64, FitsSigned, rules, arith}
 use Rattle.std.proofs.lemmas.Int.{to_z-of_z}
 use Rattle.cv_model.specs.Positions.{doubled}
-use Rattle.cv_model.specs.Pens.{overlaps, is_near}
-use Rattle.cv_model.specs.Markers.{is_marked}
+use Rattle.cv_model.specs.Pens.{is_near}
 use Rattle.cv_model.specs.Pictures.{half_side}
 use Rattle.cv_model.specs.Views.{centre_of}
 use Rattle.cv_geom.proofs.RunLemmas.{adds-row}
