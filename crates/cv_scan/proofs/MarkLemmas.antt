@@ -10,7 +10,7 @@ use Rattle.std.proofs.lemmas.List.Elements.{All-nil, All-cons, All-head, All-tai
 use Rattle.std.proofs.lemmas.List.Sorted.{All-permutation, sum_by-IsPermutation, IsPermutation-trans, IsPermutation-reverse}
 use Rattle.std.proofs.lemmas.List.{get_or-reverse, length-reverse}
 use Rattle.std.proofs.lemmas.Int.{ints}
-use Rattle.cv_geom.specs.Falls.{FallsIn}
+use Rattle.cv_geom.specs.Falls.{FallsAt, FallsIn}
 use Rattle.cv_geom.proofs.ProductLemmas.{mul-le-mulZ}
 use Rattle.cv_model.specs.Positions.{Position, doubled}
 use Rattle.cv_model.specs.Views.{PixelGrid, centre_of}
@@ -71,10 +71,6 @@ still-step crossed here rest later area old now new split told added = record {
 
 -- ---- the marks of an edge, row by row
 
--- whether a column is below a number doesn't change where the number is brought within the columns
-clamped : (i from end k c : ℕ) → c ≡ max from (min k end) → from ≤ i → i < end → nat_lt i c ≡ nat_lt i k
-clamped i from end k c is west east = grind (arith, nat_tests)
-
 -- one for what holds
 abbrev pub to_count : Bool → ℕ
 to_count b = if b then 1 else 0
@@ -84,27 +80,25 @@ plus-zero n k none = omega arith
 
 -- one row more
 pub marks-row :
-    (v : PixelGrid) (a b : Position) (area : Area) (row column : ℕ) (first old new : List Mark) → pos 1 ≤ℤ v.u
-    → area.columns.end ≤ v.w → area.columns.from ≤ area.columns.end → area.rows.from ≤ row → row < area.rows.end
-    → column ≡ max area.columns.from (min (edge_reach v row (a, b)) area.columns.end)
+    (v : PixelGrid) (a b : Position) (area : Area) (row column : ℕ) (first old new : List Mark)
+    → area.rows.from ≤ row → row < area.rows.end
+    → FallsAt (λ i. is_crossed (centre_of v i row) (a, b)) area.columns.from area.columns.end column
     → AddsMarks (λ i j. if nat_lt j row then (if is_crossed (centre_of v i j) (a, b) then 1 else 0) else 0) area first old
     → new ≡ old ++ (record { row = row; column = column }) ∷ []
     → AddsMarks (λ i j. if nat_lt j (row + 1) then (if is_crossed (centre_of v i j) (a, b) then 1 else 0) else 0) area first new
-marks-row v a b area row column first old new unit wide order north south is before put = record {
+marks-row v a b area row column first old new north south falls before put = record {
   within = λ all.
       rw put
       (All-append (MarkIn area) old ((record { row = row; column = column }) ∷ []) (before.within all)
       (All-cons (MarkIn area) (record { row = row; column = column }) []
-      (record { north = north; south = south; west = omega arith; east = omega arith })
+      (record { north = north; south = south; west = falls.low_in; east = falls.high_in })
       (All-nil (MarkIn area))));
   counted = λ i j here.
       let mark : Mark = record { row = row; column = column } in
       let split = ap (marks_right i j) put ∙ right-append i j old (mark ∷ []) in
       let one = right-cons i j mark [] in
       let told = before.counted i j here in
-      let crossed : is_crossed (centre_of v i row) (a, b) ≡ nat_lt i column =
-      edge-crosses v i row (a, b) unit (let east = here.east in omega arith)
-      ∙ sym (clamped i area.columns.from area.columns.end (edge_reach v row (a, b)) column is here.west here.east) in
+      let crossed : is_crossed (centre_of v i row) (a, b) ≡ nat_lt i column = falls.falls i here.west here.east in
       let step = by-row i j (j == row) (nat_lt j row) refl refl crossed in
       omega arith;
 }

@@ -7,7 +7,9 @@
 //! `spans` and `spans_in` take memory; no handle is needed.
 #![tactic(auto)]
 
+mod crossings;
 mod fills;
+mod hints;
 mod marks;
 mod reaches;
 mod row;

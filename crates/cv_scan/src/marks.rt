@@ -1,7 +1,7 @@
 //! Marks of crossings, each edge read once.
 
 ghost use Rattle.std.specs.Prelude.{◌≡◌, ◌+◌, ◌*◌, ◌≤◌, ◌<◌, ℕ, ◌++◌, ◌==◌, ◌%◌, OnOk, length, All};
-ghost use Rattle.std.specs.Prelude.{if◌then◌else◌, None};
+ghost use Rattle.std.specs.Prelude.{if◌then◌else◌, None, int_lt};
 ghost use Rattle.std.specs.List.{flat_map};
 ghost use Rattle.cv_model.specs.Positions.{doubled};
 ghost use Rattle.cv_model.specs.Polygons.{edges, crossings, is_crossed, is_low};
@@ -10,9 +10,9 @@ ghost use Rattle.cv_geom.specs.Falls.{FallsAt};
 ghost use Rattle.cv_geom.specs.Runs.{Adds, IsArea, rows_of};
 ghost use Rattle.cv_scan.specs.Marks.{AddsMarks, MarkIn, marks_right, run_between, runs_from};
 
-use crate::reaches::reach;
+use crate::crossings::column_of_crossing;
 use cv_geom::{Area, Run, Runs, Steps, centre, is_low, search};
-use cv_model::{NoMemory, Point, Polygon, Span, View};
+use cv_model::{NoMemory, Point, Point2, Polygon, Span, View};
 use std::sync::ledger::Ledger;
 
 /// How far a crossing with the height of a row reaches: the columns before `column` lie left of it.
@@ -61,15 +61,22 @@ fn put_ring<L: Ledger>(
     };
     let mut before = *last;
     let mut row_before = row_of(before, view, area.rows);
+    let mut column_before = column_of(before, view, area.columns);
     for point in points {
         let row = row_of(*point, view, area.rows);
         let rows = Span {
             from: row.min(row_before),
             end: row.max(row_before),
         };
-        put_edge(marks, before, *point, view, area, rows, steps)?;
+        let column = column_of(*point, view, area.columns);
+        let columns = Span {
+            from: column.min(column_before),
+            end: column.max(column_before),
+        };
+        put_edge(marks, before, *point, view, area, rows, columns, steps)?;
         before = *point;
         row_before = row;
+        column_before = column;
     }
     Ok(())
 }
@@ -84,8 +91,30 @@ fn row_of(point: Point, view: &View, rows: Span) -> u32
     search(rows.from, rows.end, |j| is_low(point, centre(view, 0, j)))
 }
 
+/// The first of some columns whose centres don't lie left of a point; the end of the columns if all do.
+fn column_of(point: Point, view: &View, columns: Span) -> u32
+    requires order { columns.from ≤ columns.end }
+    requires within { columns.end ≤ view.now.w }
+    ensures from { columns.from ≤ result }
+    ensures end { result ≤ columns.end }
+{
+    let _width = view.w;
+    search(
+        columns.from,
+        columns.end,
+        |i| is_left(centre(view, i, 0), point),
+    )
+}
+
+/// Whether a position lies left of a point.
+fn is_left(p: Point2, a: Point) -> bool
+    ensures { result ≡ int_lt p.x (doubled a).x }
+{
+    p.x < 2 * a.x
+}
+
 /// Puts the marks of an edge that crosses the heights of some rows and of no others of an area behind the
-/// others.
+/// others. Its crossings are looked for in `columns` first.
 fn put_edge<L: Ledger>(
     marks: &mut Vec<Mark>,
     a: Point,
@@ -93,9 +122,13 @@ fn put_edge<L: Ledger>(
     view: &View,
     area: Area,
     rows: Span,
+    columns: Span,
     steps: &mut Steps<L>,
 ) -> Result<(), NoMemory>
     requires area { IsArea view.now.w view.now.h area }
+    requires west { area.columns.from ≤ columns.from }
+    requires across { columns.from ≤ columns.end }
+    requires east { columns.end ≤ area.columns.end }
     requires north { area.rows.from ≤ rows.from }
     requires order { rows.from ≤ rows.end }
     requires south { rows.end ≤ area.rows.end }
@@ -111,8 +144,7 @@ fn put_edge<L: Ledger>(
     let _unit = view.u;
     for row in rows.from..rows.end {
         steps.tick();
-        let reach = reach(a, b, view, row).min(area.columns.end);
-        let column = reach.max(area.columns.from);
+        let column = column_of_crossing(a, b, view, row, area.columns, columns);
         marks.push(Mark { row, column })?;
     }
     Ok(())

@@ -19,16 +19,13 @@ loop-row-preserved g c =
     let area = c.args.area in
     let row = c.loop-row.row in
     let told = c.loop-row.invariant in
-    let unit : pos 1 ≤ℤ v.u = rw (ap (λ (p : PixelGrid). p.u) c.view.view_is) at c.view.invariant.unit in
     let less : row < c.args.rows.end = omega (arith, c.loop-row-test.true, c.loop-row.auto.row-end) in
-    let column : c.max-column.result ≡ max area.columns.from (min (edge_reach v row (c.args.a, c.args.b)) area.columns.end) =
-    omega (arith, c.max-column.ensures, c.min-reach.ensures, c.reach.ensures) in
     record {
       north = omega (arith, told.north);
       marked =
-          marks-row v c.args.a c.args.b area row c.max-column.result c.args.marks.now.items c.loop-row.marks.items
-          c.push.new.self.items unit c.requires.area.columns_in c.requires.area.columns
-          (omega (arith, told.north, c.requires.north)) (omega (arith, less, c.requires.south)) column told.marked
+          marks-row v c.args.a c.args.b area row c.column_of_crossing-column.result c.args.marks.now.items
+          c.loop-row.marks.items c.push.new.self.items (omega (arith, told.north, c.requires.north))
+          (omega (arith, less, c.requires.south)) c.column_of_crossing-column.ensures told.marked
           c.in_ok-push.ensures.items;
       cost = omega (arith, told.cost, c.tick.ensures);
     }
