@@ -1,5 +1,5 @@
 -- Marks: what they count, row by row and edge by edge, and the runs that lie between descending marks.
-use Rattle.std.proofs.Common.{◌≡◌, ◌∙◌, sym, ap, refl, ℕ, suc, ◌+◌, ◌%◌, ◌<◌, ◌≤◌, min, max, nat_lt, nat_le, ◌==◌, ◌⊎◌, inl, inr, Bool, true, false, cond, ◌&&◌, ◌||◌, if◌then◌else◌, List, [], ◌∷◌, ◌++◌, length, get_or, reverse, ◌-◌, ◌*◌, Option, Some, None, Ordering, arith, pos, ◌≤ℤ◌}
+use Rattle.std.proofs.Common.{◌≡◌, ◌∙◌, sym, ap, refl, ℕ, suc, ◌+◌, ◌%◌, ◌<◌, ◌≤◌, nat_lt, nat_le, ◌==◌, ◌⊎◌, inl, inr, Bool, true, false, cond, ◌&&◌, ◌||◌, if◌then◌else◌, List, [], ◌∷◌, ◌++◌, length, get_or, reverse, ◌-◌, ◌*◌, Some, None, Ordering, arith, pos, ◌≤ℤ◌}
 use Rattle.std.specs.List.{All}
 use Rattle.std.specs.List.Sorted.{IsPermutation, IsSortedByKey}
 use Rattle.std.specs.Ordering.{is_lt, nat_cmp, ordering_then}
@@ -14,14 +14,12 @@ use Rattle.cv_geom.specs.Falls.{FallsAt, FallsIn}
 use Rattle.cv_geom.proofs.ProductLemmas.{mul-le-mulZ}
 use Rattle.cv_model.specs.Positions.{Position, doubled}
 use Rattle.cv_model.specs.Views.{PixelGrid, centre_of}
-use Rattle.cv_model.specs.Polygons.{is_low, is_crossed, crosses, passes_right}
+use Rattle.cv_model.specs.Polygons.{is_low, is_crossed, passes_right}
 use Rattle.cv_geom.specs.declared.runs.Run.{Run}
 use Rattle.cv_geom.specs.declared.runs.Area.{Area}
 use Rattle.cv_geom.specs.Runs.{is_on, is_on_any, IsIn, LiesIn, Adds}
 use Rattle.cv_scan.specs.declared.marks.Mark.{Mark}
-use Rattle.cv_scan.specs.Reaches.{edge_reach}
 use Rattle.cv_scan.specs.Marks.{is_right, marks_right, MarkIn, AddsMarks, IsBefore, Descends, run_between, runs_from}
-use Rattle.cv_scan.proofs.ReachLemmas.{edge-crosses}
 
 -- a mark counts once
 abbrev once : ℕ → ℕ → Mark → ℕ

@@ -1,4 +1,4 @@
-use Rattle.std.proofs.Common.{◌≡◌, refl}
+use Rattle.std.proofs.Common.{refl}
 use Rattle.std.specs.List.{flat_map}
 use Rattle.cv_model.specs.Polygons.{edges, crossings, is_inside}
 use Rattle.cv_model.specs.Views.{centre_of}

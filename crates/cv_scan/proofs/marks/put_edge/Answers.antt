@@ -1,6 +1,4 @@
-use Rattle.std.proofs.Common.{ℕ, ◌≡◌, ◌+◌, ◌<◌, ◌≤◌, min, max, pos, ◌≤ℤ◌, ap, arith}
-use Rattle.cv_model.specs.Views.{PixelGrid}
-use Rattle.cv_scan.specs.Reaches.{edge_reach}
+use Rattle.std.proofs.Common.{◌<◌, arith}
 use Rattle.cv_scan.proofs.MarkLemmas.{marks-none, marks-row, marks-all}
 use Rattle.cv_scan.proofs.marks.put_edge.Goals as goal
 

@@ -1,4 +1,4 @@
-use Rattle.std.proofs.Common.{ℕ, ◌≤◌, ◌+◌, ◌-◌, nat_lt, if◌then◌else◌}
+use Rattle.std.proofs.Common.{◌≤◌, ◌+◌, ◌-◌, nat_lt, if◌then◌else◌}
 use Rattle.cv_model.specs.Polygons.{is_crossed}
 use Rattle.cv_model.specs.Views.{centre_of}
 use Rattle.cv_scan.specs.Marks.{AddsMarks}

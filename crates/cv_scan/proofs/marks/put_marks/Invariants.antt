@@ -1,4 +1,4 @@
-use Rattle.std.proofs.Common.{ℕ, ◌≤◌, ◌+◌, ◌*◌, drop, length}
+use Rattle.std.proofs.Common.{◌≤◌, ◌+◌, ◌*◌, drop, length}
 use Rattle.std.specs.List.{flat_map}
 use Rattle.cv_model.specs.Polygons.{edges, crossings}
 use Rattle.cv_model.specs.Views.{centre_of}

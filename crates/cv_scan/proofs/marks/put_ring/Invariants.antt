@@ -1,4 +1,4 @@
-use Rattle.std.proofs.Common.{ℕ, ◌≤◌, ◌+◌, ◌*◌, drop, length}
+use Rattle.std.proofs.Common.{◌≤◌, ◌+◌, ◌*◌, drop, length}
 use Rattle.cv_model.specs.Positions.{doubled}
 use Rattle.cv_model.specs.Polygons.{edges, edges_from, crossings, is_low}
 use Rattle.cv_model.specs.Views.{centre_of}

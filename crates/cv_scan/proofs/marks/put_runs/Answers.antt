@@ -1,4 +1,4 @@
-use Rattle.std.proofs.Common.{◌≡◌, ◌∙◌, ap, ◌++◌, None, rules}
+use Rattle.std.proofs.Common.{◌∙◌, ap, ◌++◌, None, rules}
 use Rattle.std.proofs.lemmas.List.Sorted.{answers_always}
 use Rattle.cv_scan.specs.Marks.{runs_from}
 use Rattle.cv_scan.proofs.MarkLemmas.{place_of, reversed-added}
