@@ -4,6 +4,7 @@ ghost use Rattle.std.specs.Prelude.{◌≡◌, ◌+◌, ◌*◌, ◌≤◌, OnOk
 ghost use Rattle.std.specs.List.{flat_map, list_any};
 ghost use Rattle.cv_model.specs.Polygons.{edges, is_inside};
 ghost use Rattle.cv_model.specs.Views.{centre_of};
+ghost use Rattle.cv_scan.specs.Fills.{RunsHaveTheSpans};
 ghost use Rattle.cv_geom.specs.Runs.{AreRunsOf, IsArea, Adds, edges_of, rows_of};
 
 use crate::marks::{put_marks, put_runs};
@@ -74,3 +75,8 @@ fn put_polygon<L: Ledger>(
     put_runs(&mut scratch.marks, area, into)?;
     Ok(())
 }
+
+/// The runs of an area have in each row the columns of the spans that `spans_in` finds there.
+pub fn runs_have_the_spans()
+    ensures { RunsHaveTheSpans }
+{}
