@@ -12,7 +12,7 @@ use Rattle.cv_geom.proofs.CentreLemmas.{centres-rise}
 use Rattle.cv_pen.specs.Dots.{is_before, is_reached}
 
 -- a square by the size of its side
-square-is : (z : ℤ) → z *ℤ z ≡ pos (unsigned_abs z * unsigned_abs z)
+pub square-is : (z : ℤ) → z *ℤ z ≡ pos (unsigned_abs z * unsigned_abs z)
 square-is (pos n) = refl
 square-is (negsuc n) = refl
 

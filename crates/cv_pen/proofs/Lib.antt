@@ -3,3 +3,4 @@ pub mod SideLemmas
 pub mod DotLemmas
 pub mod BetweenLemmas
 pub mod OutlineLemmas
+pub mod RowLemmas

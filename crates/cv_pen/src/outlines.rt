@@ -12,7 +12,8 @@ ghost use Rattle.cv_pen.specs.Dots.{IsMarkerSize};
 ghost use Rattle.cv_pen.specs.Strokes.{IsPenWidth};
 
 use crate::dots::marker_in;
-use crate::strokes::stroke_in;
+use crate::rows::rows_by;
+use crate::strokes::{half_side, stroke_in};
 use cv_geom::{Area, Runs, Steps};
 use cv_model::{Line, NoMemory, Point, Polygon, Ring, Shape, View};
 use std::sync::ledger::Ledger;
@@ -248,7 +249,9 @@ fn put_segment<L: Ledger>(
         area into.old into.new) }
     ensures cost { steps.new ≤ steps.old + rows_of area }
 {
-    for row in area.rows.from..area.rows.end {
+    let r = half_side(view, width);
+    let rows = rows_by(a, b, r, view, area.rows);
+    for row in rows.from..rows.end {
         let run = stroke_in(
             a,
             b,
@@ -304,7 +307,9 @@ fn put_marker<L: Ledger>(
         area into.old into.new) }
     ensures cost { steps.new ≤ steps.old + rows_of area }
 {
-    for row in area.rows.from..area.rows.end {
+    let r = half_side(view, size);
+    let rows = rows_by(at, at, r, view, area.rows);
+    for row in rows.from..rows.end {
         let run = marker_in(
             shape,
             at,

@@ -1,3 +1,4 @@
 -- What the proofs of this crate share.
 pub mod ReachLemmas
 pub mod RunLemmas
+pub mod MarkLemmas

@@ -1,3 +1,5 @@
--- The definitions of reaches, and of the runs made of them.
+-- The definitions of reaches and marks, of the runs made of them, and the law of both forms.
 pub mod Reaches
 pub mod Runs
+pub mod Marks
+pub mod Fills

@@ -1,15 +1,16 @@
 //! The runs of an area inside polygons.
 
-ghost use Rattle.std.specs.Prelude.{◌≡◌, ◌+◌, ◌*◌, ◌≤◌, ◌++◌, OnOk, length};
+ghost use Rattle.std.specs.Prelude.{◌≡◌, ◌+◌, ◌*◌, ◌≤◌, OnOk, length};
 ghost use Rattle.std.specs.List.{flat_map, list_any};
 ghost use Rattle.cv_model.specs.Polygons.{edges, is_inside};
 ghost use Rattle.cv_model.specs.Views.{centre_of};
-ghost use Rattle.cv_geom.specs.Runs.{AreRunsOf, IsArea, Adds, in_row, edges_of, rows_of};
+ghost use Rattle.cv_scan.specs.Fills.{RunsHaveTheSpans};
+ghost use Rattle.cv_geom.specs.Runs.{AreRunsOf, IsArea, Adds, edges_of, rows_of};
 
-use crate::row::spans_in;
+use crate::marks::{put_marks, put_runs};
 use crate::scratch::Scratch;
 use cv_geom::{Area, Runs, Steps};
-use cv_model::{NoMemory, Polygon, Span, Spans, View};
+use cv_model::{NoMemory, Polygon, View};
 use std::sync::ledger::Ledger;
 
 /// Puts the runs of an area inside any of some polygons into a list in place of what it held.
@@ -69,29 +70,13 @@ fn put_polygon<L: Ledger>(
         (Adds (λ i j. is_inside (centre_of view.now i j) polygon.now) area into.old into.new) }
     ensures cost { steps.new ≤ steps.old + length (flat_map edges polygon.now) * rows_of area }
 {
-    let mut spans = Spans::new(scratch.alloc);
-    for row in area.rows.from..area.rows.end {
-        spans_in(
-            scratch.alloc,
-            polygon,
-            view,
-            row,
-            area.columns.from,
-            area.columns.end,
-            &mut spans,
-            steps,
-        )?;
-        put_spans(row, spans.as_slice(), into)?;
-    }
+    scratch.marks.clear();
+    put_marks(&mut scratch.marks, polygon, view, area, steps)?;
+    put_runs(&mut scratch.marks, area, into)?;
     Ok(())
 }
 
-/// Puts the spans of a row behind the others.
-fn put_spans(row: u32, spans: &[Span], into: &mut Runs) -> Result<(), NoMemory>
-    ensures { OnOk result (into.new ≡ into.old ++ in_row row spans.now) }
-{
-    for span in spans {
-        into.put_span(row, Some(*span))?;
-    }
-    Ok(())
-}
+/// The runs of an area have in each row the columns of the spans that `spans_in` finds there.
+pub fn runs_have_the_spans()
+    ensures { RunsHaveTheSpans }
+{}

@@ -1,19 +1,23 @@
-//! The runs of a row's pixels inside a polygon.
+//! The runs of pixels inside polygons: those of a row, and those of an area with each edge read once.
 //!
 //! Contract: the spans of a row are exactly the maximal runs of columns whose centres are inside, in
-//! ascending order, and `spans_in` counts at most one step for an edge and a row.
-//! Definitions: `Reaches` and `Runs` here; `Spans` of `cv_geom`; `Polygons` and `Views` of `cv_model`. Law:
-//! `edges_cross_the_first`.
-//! `spans` and `spans_in` take memory; no handle is needed.
+//! ascending order; the runs of an area have exactly its pixels whose centres are inside, none on two. At
+//! most one step is counted for an edge and a row.
+//! Definitions: `Reaches`, `Runs`, `Marks` and `Fills` here; `Spans` and `Runs` of `cv_geom`; `Polygons` and
+//! `Views` of `cv_model`. Laws: `edges_cross_the_first`, `runs_have_the_spans`.
+//! `spans`, `spans_in` and `fill_runs` take memory; no handle is needed.
 #![tactic(auto)]
 
+mod crossings;
 mod fills;
+mod hints;
+mod marks;
 mod reaches;
 mod row;
 mod runs;
 mod scratch;
 
-pub use fills::fill_runs;
+pub use fills::{fill_runs, runs_have_the_spans};
 pub use reaches::{edges_cross_the_first, reach};
 pub use row::{spans, spans_in};
 pub use scratch::Scratch;

@@ -1,16 +1,19 @@
 //! Memory that scans use again.
 
+use crate::marks::Mark;
 use std::alloc::Global;
 
 /// The memory of a scan, which is used again from call to call. It holds nothing that a caller can see.
 #[derive(Drop)]
 pub struct Scratch {
-    pub(crate) alloc: Global,
+    pub(crate) marks: Vec<Mark>,
 }
 
 impl Scratch {
     /// No memory yet.
     pub fn new(alloc: Global) -> Self {
-        Scratch { alloc }
+        Scratch {
+            marks: Vec::new(alloc),
+        }
     }
 }

@@ -1,0 +1,52 @@
+-- Marks: how far crossings of edges with the heights of rows reach, and the runs that lie between them.
+--
+-- Source: this project's own form of the parity rule for polygons.
+use Rattle.std.specs.Prelude.{ℕ, ◌+◌, ◌≡◌, ◌<◌, ◌≤◌, ◌==◌, nat_lt, Bool, ◌&&◌, if◌then◌else◌, ◌⊎◌, List, [], ◌∷◌, ◌++◌, count_by, All, Option, Some, None}
+use Rattle.cv_geom.specs.declared.runs.Run.{Run}
+use Rattle.cv_geom.specs.declared.runs.Area.{Area}
+use Rattle.cv_geom.specs.Runs.{IsIn}
+use Rattle.cv_scan.specs.declared.marks.Mark.{Mark}
+
+-- pixel (i, j) lies left of a mark in its row
+abbrev pub is_right : ℕ → ℕ → Mark → Bool
+is_right i j mark = (j == mark.row) && nat_lt i mark.column
+
+-- how many marks pixel (i, j) lies left of
+abbrev pub marks_right : ℕ → ℕ → List Mark → ℕ
+marks_right i j marks = count_by (is_right i j) marks
+
+-- a mark lies in an area, or at its right end
+pub record MarkIn (area : Area) (mark : Mark) : Type 0 where
+  pub north : area.rows.from ≤ mark.row
+  pub south : mark.row < area.rows.end
+  pub west : area.columns.from ≤ mark.column
+  pub east : mark.column ≤ area.columns.end
+
+-- marks that were put behind others: each pixel of the area lies left of so many of them
+pub record AddsMarks (crossed : ℕ → ℕ → ℕ) (area : Area) (old new : List Mark) : Type 0 where
+  pub within : All (MarkIn area) old → All (MarkIn area) new
+  pub counted : (i j : ℕ) → IsIn area i j → marks_right i j new ≡ marks_right i j old + crossed i j
+
+-- a mark lies before another in reading order, or is the same
+abbrev pub IsBefore : Mark → Mark → Type 0
+IsBefore b a = (b.row < a.row) ⊎ ((b.row ≡ a.row) × (b.column ≤ a.column))
+
+-- each mark lies at the one before it in the list or before that in reading order
+abbrev pub Descends : Mark → List Mark → Type 0
+Descends a [] = Unit {0}
+Descends a (b ∷ rest) = IsBefore b a × Descends b rest
+
+-- the run between two columns of a row, unless it is empty
+abbrev pub run_between : ℕ → ℕ → ℕ → List Run
+run_between row from end = if nat_lt from end then (record { row = row; from = from; end = end }) ∷ [] else []
+
+-- the runs that end at each other mark of a row, the rightmost first, from column `from` on; an open one ends
+-- at the mark `last`
+abbrev pub runs_from : ℕ → Option Mark → List Mark → List Run
+runs_from from None [] = []
+runs_from from None (b ∷ rest) = runs_from from (Some b) rest
+runs_from from (Some a) [] = run_between a.row from a.column
+runs_from from (Some a) (b ∷ rest) =
+    if a.row == b.row
+    then run_between a.row b.column a.column ++ runs_from from None rest
+    else run_between a.row from a.column ++ runs_from from (Some b) rest
