@@ -1,14 +1,10 @@
 //! Worked runs, and random segments and points against the test of each centre.
 
 use crate::strokes::half_side;
-use crate::{line_runs, marker, marker_runs, ring_runs, stroke};
-use cv_geom::{Area, Runs, Steps, centre, marked, near};
-use cv_model::{Line, NoMemory, Point, Polygon, Shape, Span, View};
-use std::alloc::Global;
-use std::marker::Brand;
+use crate::{marker, stroke};
+use cv_geom::{centre, marked, near};
+use cv_model::{Point, Shape, Span, View};
 use std::process::Abort;
-use std::sync::ledger::Blank;
-use std::test::Fail;
 
 /// 10^15.
 const FAR: i64 = 1_000_000_000_000_000;
@@ -139,67 +135,4 @@ fn pens_and_markers_at_random(rt: HostRuntime) {
             }
         }
     }
-}
-
-/// The line through three points.
-fn line(alloc: Global, points: &[Point]) -> Result<Line, NoMemory> {
-    let mut line = Line::new(alloc);
-    for point in points {
-        line.put(*point)?;
-    }
-    Ok(line)
-}
-
-/// Whether a pixel lies on one of some runs.
-fn is_on(runs: &Runs, i: u32, j: u32) -> bool {
-    runs.as_slice()
-        .iter()
-        .any(|r| r.row == j && r.from <= i && i < r.end)
-}
-
-#[test]
-fn runs_of_an_area(rt: HostRuntime) -> Result<(), Fail> {
-    let alloc = rt.alloc();
-    let area = Area {
-        columns: Span { from: 1, end: 4 },
-        rows: Span { from: 0, end: 3 },
-    };
-    let points = [at(1, 1), at(7, 2), at(4, 6)];
-    let edges = [
-        (points[2], points[0]),
-        (points[0], points[1]),
-        (points[1], points[2]),
-    ];
-    let path = line(alloc, &points)?;
-    let mut polygon = Polygon::new(alloc);
-    polygon.put(line(alloc, &points)?)?;
-    let mut steps = Steps::<Brand>::of(Blank::new(1));
-    let (mut rings, mut lines, mut dots) = (Runs::new(alloc), Runs::new(alloc), Runs::new(alloc));
-    ring_runs(&[polygon], 1, &FOUR_BY_FOUR, area, &mut rings, &mut steps)?;
-    line_runs(&[path], 1, &FOUR_BY_FOUR, area, &mut lines, &mut steps)?;
-    marker_runs(
-        &points,
-        Shape::Circle,
-        2,
-        &FOUR_BY_FOUR,
-        area,
-        &mut dots,
-        &mut steps,
-    )?;
-    let (half, radius) = (half_side(&FOUR_BY_FOUR, 1), half_side(&FOUR_BY_FOUR, 2));
-    for j in 0..3u32 {
-        for i in 1..4u32 {
-            let p = centre(&FOUR_BY_FOUR, i, j);
-            let ring = edges.iter().any(|e| near(e.0, e.1, p, half));
-            let open = edges[1..].iter().any(|e| near(e.0, e.1, p, half));
-            let dot = points
-                .iter()
-                .any(|at| marked(Shape::Circle, *at, p, radius));
-            assert_eq!(rt;
-                (is_on(&rings, i, j), is_on(&lines, i, j), is_on(&dots, i, j)),
-                (ring, open, dot)
-            );
-        }
-    }
-    Ok(())
 }

@@ -1,12 +1,10 @@
 //! Worked spans, and random polygons against the test of each centre.
 
-use crate::{Scratch, fill_runs, spans};
-use cv_geom::{Area, Runs, Steps, centre, inside};
-use cv_model::{NoMemory, Point, Polygon, Ring, Span, Spans, View};
+use crate::spans;
+use cv_geom::{centre, inside};
+use cv_model::{NoMemory, Point, Polygon, Ring, Spans, View};
 use std::alloc::Global;
-use std::marker::Brand;
 use std::process::Abort;
-use std::sync::ledger::Blank;
 use std::test::Fail;
 
 /// 10^15.
@@ -141,58 +139,6 @@ fn spans_of_random_polygons(rt: HostRuntime) -> Result<(), Fail> {
         for _ in 0..300u16 {
             let polygon = polygon(alloc, kind, &mut seed)?;
             assert_spans(&rt, alloc, &polygon, &view)?;
-        }
-    }
-    Ok(())
-}
-
-/// Asserts that the runs of a part of a view have exactly its pixels whose centres are inside a polygon.
-fn assert_runs(
-    rt: &impl Abort,
-    scratch: &mut Scratch,
-    runs: &mut Runs,
-    polygons: &[Polygon],
-    view: &View,
-) -> Result<(), NoMemory> {
-    let area = Area {
-        columns: Span {
-            from: view.w / 4,
-            end: view.w,
-        },
-        rows: Span {
-            from: 0,
-            end: view.h - view.h / 4,
-        },
-    };
-    let mut steps = Steps::<Brand>::of(Blank::new(1));
-    fill_runs(scratch, polygons, view, area, runs, &mut steps)?;
-    for j in area.rows.from..area.rows.end {
-        for i in area.columns.from..area.columns.end {
-            let on = runs
-                .as_slice()
-                .iter()
-                .any(|r| r.row == j && r.from <= i && i < r.end);
-            let p = centre(view, i, j);
-            let want = polygons.iter().any(|polygon| inside(polygon, p));
-            assert_eq!(rt; on, want, "at {i} {j}");
-        }
-    }
-    Ok(())
-}
-
-#[test]
-fn runs_of_random_polygons(rt: HostRuntime) -> Result<(), Fail> {
-    let alloc = rt.alloc();
-    let mut seed = 18;
-    let mut scratch = Scratch::new(alloc);
-    let mut runs = Runs::new(alloc);
-    for (kind, view) in [(0, FOUR_BY_FOUR), (1, FINEST), (2, COARSEST)] {
-        for _ in 0..100u16 {
-            let pair = [
-                polygon(alloc, kind, &mut seed)?,
-                polygon(alloc, kind, &mut seed)?,
-            ];
-            assert_runs(&rt, &mut scratch, &mut runs, &pair, &view)?;
         }
     }
     Ok(())
