@@ -1,0 +1,4 @@
+-- The definitions of what lies on a canvas.
+pub mod Canvas
+pub mod Mixing
+pub mod Pixels
