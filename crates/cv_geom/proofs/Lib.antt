@@ -9,3 +9,5 @@ pub mod ViewLemmas
 pub mod FallLemmas
 pub mod SpanLemmas
 pub mod CentreLemmas
+pub mod RunLemmas
+pub mod UniteLemmas

@@ -7,10 +7,12 @@
 
 mod between;
 mod dots;
+mod outlines;
 mod sides;
 mod strokes;
 
 pub use dots::{marker, marker_in};
+pub use outlines::{line_runs, marker_runs, ring_runs};
 pub use strokes::{stroke, stroke_in};
 
 #[cfg(test)]

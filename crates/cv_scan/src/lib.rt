@@ -7,12 +7,16 @@
 //! `spans` and `spans_in` take memory; no handle is needed.
 #![tactic(auto)]
 
+mod fills;
 mod reaches;
 mod row;
 mod runs;
+mod scratch;
 
+pub use fills::fill_runs;
 pub use reaches::{edges_cross_the_first, reach};
 pub use row::{spans, spans_in};
+pub use scratch::Scratch;
 
 #[cfg(test)]
 mod tests;

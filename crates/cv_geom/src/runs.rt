@@ -1,0 +1,140 @@
+//! Runs of pixels: columns of rows, and lists of them that are joined.
+
+ghost use Rattle.std.specs.Prelude.{◌≡◌, ◌++◌, ◌∷◌, [], OnOk, OnErr, option_to_list};
+ghost use Rattle.cv_geom.specs.Runs.{Unites, united, in_row, RunsAreApart, RunsAreFew};
+
+use cv_model::{NoMemory, Span};
+use std::alloc::Global;
+use std::marker::Model;
+use std::mem::swap;
+
+/// The columns of a row of pixels from `from` up to and without `end`.
+#[derive(Clone, Copy, Debug, PartialEq, Eq)]
+pub struct Run {
+    /// The row, of which the one at the top is 0.
+    pub row: u32,
+    /// The first column.
+    pub from: u32,
+    /// The column behind the last.
+    pub end: u32,
+}
+
+/// A rectangle of pixels: its columns and its rows, each from `from` up to and without `end`.
+#[derive(Clone, Copy, Debug, PartialEq, Eq)]
+pub struct Area {
+    /// The columns.
+    pub columns: Span,
+    /// The rows.
+    pub rows: Span,
+}
+
+/// Runs of pixels, seen as a list of runs.
+///
+/// The memory that it has taken is kept when it is cleared, so that one list serves many features.
+#[derive(Drop)]
+pub struct Runs {
+    runs: Vec<Run>,
+    spare: Vec<Run>,
+}
+
+impl Model for Runs {
+    ghost use Rattle.std.specs.Prelude.{List};
+    ghost use Rattle.cv_geom.specs.declared.runs.Run.{Run};
+
+    ghost Value = { List Run };
+
+    ghost view = { λ l. l.runs.items };
+}
+
+impl Runs {
+    /// No runs. Takes no memory.
+    pub fn new(alloc: Global) -> Self
+        ensures { result ≡ [] }
+    {
+        Runs {
+            runs: Vec::new(alloc),
+            spare: Vec::new(alloc),
+        }
+    }
+
+    /// Takes all runs out.
+    pub fn clear(&mut self)
+        ensures { self.new ≡ [] }
+    {
+        self.runs.clear();
+    }
+
+    /// Puts a run behind the others. A refusal changes nothing.
+    pub fn put(&mut self, run: Run) -> Result<(), NoMemory>
+        ensures ok { OnOk result (self.new ≡ self.old ++ run ∷ []) }
+        ensures err { OnErr result (self.new ≡ self.old) }
+    {
+        self.runs.push(run)?;
+        Ok(())
+    }
+
+    /// The runs in order.
+    pub fn as_slice(&self) -> &[Run]
+        ensures { result.now ≡ self.now }
+    {
+        self.runs.as_slice()
+    }
+
+    /// Puts the run of a row behind the others, if there is one. A refusal changes nothing.
+    pub fn put_span(&mut self, row: u32, span: Option<Span>) -> Result<(), NoMemory>
+        ensures ok { OnOk result (self.new ≡ self.old ++ in_row row (option_to_list span)) }
+        ensures err { OnErr result (self.new ≡ self.old) }
+    {
+        match span {
+            Some(found) => self.put(Run {
+                row,
+                from: found.from,
+                end: found.end,
+            }),
+            None => Ok(()),
+        }
+    }
+
+    /// Brings the runs into reading order, and joins those that overlap or touch in a row. Where memory
+    /// wants, what is held is open.
+    pub fn unite(&mut self) -> Result<(), NoMemory>
+        ensures { OnOk result (Unites self.old self.new) }
+    {
+        self.runs.sort_unstable_by_key(|run| (run.row, run.from));
+        self.spare.clear();
+        put_united(&self.runs, &mut self.spare)?;
+        swap(&mut self.runs, &mut self.spare);
+        Ok(())
+    }
+}
+
+/// Puts runs in reading order into an empty list, those that overlap or touch in a row as one.
+fn put_united(runs: &[Run], into: &mut Vec<Run>) -> Result<(), NoMemory>
+    requires { into.old.items ≡ [] }
+    ensures { OnOk result (into.new.items ≡ united runs.now) }
+{
+    let Some((first, rest)) = runs.split_first() else {
+        return Ok(());
+    };
+    let mut last = *first;
+    for run in rest {
+        if last.row == run.row && run.from <= last.end {
+            last.end = last.end.max(run.end);
+        } else {
+            into.push(last)?;
+            last = *run;
+        }
+    }
+    into.push(last)?;
+    Ok(())
+}
+
+/// No pixel lies on two of the runs of an area.
+pub fn runs_are_apart()
+    ensures { RunsAreApart }
+{}
+
+/// The runs of an area have together at most as many pixels as the area.
+pub fn runs_are_few()
+    ensures { RunsAreFew }
+{}
