@@ -1,0 +1,29 @@
+-- What a layer is painted from.
+use Rattle.std.specs.Prelude.{ℕ, List, ◌∷◌, ◌++◌, Option, option_map}
+use Rattle.std.specs.Option.{option_to_list, option_map_or}
+use Rattle.cv_model.specs.Layers.{Core}
+use Rattle.cv_model.specs.Paintings.{Input, Painting, Stamp}
+use Rattle.cv_layer.specs.Layers.{RevisedCore}
+
+-- the revision of a layer, or 0 where it isn't there
+abbrev pub revision_of : Option RevisedCore → ℕ
+revision_of layer = option_map_or (λ l. l.revision) layer 0
+
+-- the stamps of an image of a layer with these mask and join layers: its own id and revision, then those of
+-- the mask layer and of the join layer where these are named
+abbrev pub stamps_of : RevisedCore → Option RevisedCore → Option RevisedCore → List Stamp
+stamps_of own mask join =
+    record { id = own.core.id; revision = own.revision }
+    ∷ option_to_list (option_map (λ id. record { id = id; revision = revision_of mask }) own.core.mask)
+    ++ option_to_list (option_map (λ j. record { id = j.layer; revision = revision_of join }) own.core.join)
+
+-- the input of a layer with these mask and join layers
+abbrev pub input_of : RevisedCore → Option RevisedCore → Option RevisedCore → Input
+input_of own mask join = record {
+  parts = record {
+    own = own.core;
+    mask = option_map (λ l. l.core) mask;
+    join = option_map (λ l. l.core) join;
+  };
+  stamps = stamps_of own mask join;
+}

@@ -1,0 +1,7 @@
+-- The definitions of layers as the store and the painter share them, in reading order.
+pub mod Stamps
+pub mod Boxes
+pub mod Tables
+pub mod Layers
+pub mod Inputs
+pub mod Strips

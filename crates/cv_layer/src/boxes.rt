@@ -1,0 +1,67 @@
+//! The boxes of geometries.
+
+ghost use Rattle.std.specs.Prelude.{◌≡◌};
+ghost use Rattle.cv_layer.specs.Boxes.{stretched, round_points, round_lines, round_polygons, box_of};
+
+use cv_model::{Extent, Geometry, Line, Point, Polygon};
+
+/// The least box that holds a point and what a box holds.
+fn stretched(held: Option<Extent>, point: Point) -> Option<Extent>
+    ensures { result ≡ stretched held point }
+{
+    match held {
+        None => Some(Extent {
+            xmin: point.x,
+            ymin: point.y,
+            xmax: point.x,
+            ymax: point.y,
+        }),
+        Some(held) => Some(Extent {
+            xmin: held.xmin.min(point.x),
+            ymin: held.ymin.min(point.y),
+            xmax: held.xmax.max(point.x),
+            ymax: held.ymax.max(point.y),
+        }),
+    }
+}
+
+/// The least box that holds these points and what a box holds.
+fn round_points(mut held: Option<Extent>, points: &[Point]) -> Option<Extent>
+    ensures { result ≡ round_points held points.now }
+{
+    for point in points {
+        held = stretched(held, *point);
+    }
+    held
+}
+
+/// The least box that holds these lines or rings and what a box holds.
+fn round_lines(mut held: Option<Extent>, lines: &[Line]) -> Option<Extent>
+    ensures { result ≡ round_lines held lines.now }
+{
+    for line in lines {
+        held = round_points(held, line.as_slice());
+    }
+    held
+}
+
+/// The least box that holds these polygons and what a box holds.
+fn round_polygons(mut held: Option<Extent>, polygons: &[Polygon]) -> Option<Extent>
+    ensures { result ≡ round_polygons held polygons.now }
+{
+    for polygon in polygons {
+        held = round_lines(held, polygon.as_slice());
+    }
+    held
+}
+
+/// The least box that holds all vertices of a geometry, in millionths of a map unit. There is none where it
+/// has no vertex.
+#[tactic(auto, unfolding(crate::specs::Boxes::box_of))]
+pub fn box_of(geometry: &Geometry) -> Option<Extent>
+    ensures { result ≡ box_of geometry.now }
+{
+    let points = round_points(None, geometry.points());
+    let lines = round_lines(points, geometry.lines());
+    round_polygons(lines, geometry.polygons())
+}
