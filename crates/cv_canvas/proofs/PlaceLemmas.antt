@@ -14,8 +14,9 @@ use borrow.Rule.Slice.PartMut.{put_mid, post_of}
 use Rattle.std.specs.Vec.{with_items}
 use Rattle.std.proofs.Common.{Vec}
 use Rattle.cv_model.specs.Rasters.{row_of}
-use Rattle.cv_canvas.specs.declared.run.Run.{Run}
-use Rattle.cv_canvas.specs.Canvas.{IsWithin, is_on, changed, item_in}
+use Rattle.cv_geom.specs.declared.runs.Run.{Run}
+use Rattle.cv_geom.specs.Runs.{IsWithin, is_on}
+use Rattle.cv_canvas.specs.Canvas.{changed, item_in}
 
 -- the rows before a row, and this row, fit a raster
 row_within : (w h j : ℕ) → j < h → j * w + w ≤ w * h

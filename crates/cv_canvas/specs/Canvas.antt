@@ -3,29 +3,25 @@
 -- Source: this project's own; colours are laid by W3C Compositing and Blending Level 1, source-over.
 use Rattle.std.specs.Prelude.{ℕ, ◌≡◌, ◌<◌, ◌≤◌, ◌==◌, nat_le, nat_lt, Bool, ◌&&◌, if◌then◌else◌, List, fold}
 use Rattle.std.specs.Prelude.{◌+◌, ◌*◌, slice_index_or, Option, Some, None}
-use Rattle.std.specs.List.{list_any}
 use Rattle.cv_model.specs.declared.colour.Rgba.{Rgba}
 use Rattle.cv_model.specs.Colours.{over}
-use Rattle.cv_canvas.specs.declared.run.Run.{Run}
+use Rattle.cv_geom.specs.declared.runs.Run.{Run}
+use Rattle.cv_geom.specs.Runs.{IsWithin, is_on}
 
--- a run lies in w columns and h rows
-pub record IsWithin (w h : ℕ) (run : Run) : Type 0 where
-  pub row_in : run.row < h
-  pub order : run.from ≤ run.end
-  pub end_in : run.end ≤ w
+-- what a canvas keeps: its size, and the one colour that it takes, if it takes one alone
+pub record CanvasFrame : Type 0 where
+  pub width : ℕ
+  pub height : ℕ
+  pub ink : Option Rgba
+
+-- a run lies on a canvas
+abbrev pub LiesOn : CanvasFrame → Run → Type 0
+LiesOn frame run = IsWithin frame.width frame.height run
 
 -- a canvas that takes one colour alone takes this one
 abbrev pub IsInk : Option Rgba → Rgba → Type 0
 IsInk None colour = Unit {0}
 IsInk (Some ink) colour = colour ≡ ink
-
--- pixel (i, j) lies on a run
-abbrev pub is_on : Run → ℕ → ℕ → Bool
-is_on run i j = (j == run.row) && (nat_le run.from i && nat_lt i run.end)
-
--- pixel (i, j) lies on one of the runs
-abbrev pub is_on_any : ℕ → ℕ → List Run → Bool
-is_on_any i j runs = list_any (λ run. is_on run i j) runs
 
 -- pixels with a change of each pixel of a run
 abbrev pub changed : {A : Type 0} → (A → A) → (ℕ → ℕ → A) → Run → ℕ → ℕ → A

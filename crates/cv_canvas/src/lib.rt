@@ -8,8 +8,7 @@
 mod canvas;
 mod mixing;
 mod pixels;
-mod run;
 
-pub use canvas::{Canvas, lay_runs};
+pub use canvas::Canvas;
+pub use mixing::lay_on;
 pub use pixels::PixelCanvas;
-pub use run::Run;

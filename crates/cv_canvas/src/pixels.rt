@@ -5,7 +5,7 @@ ghost use Rattle.cv_model.specs.Colours.{transparent};
 
 use crate::canvas::Canvas;
 use crate::mixing::lay_on;
-use crate::run::Run;
+use cv_geom::Run;
 use cv_model::{NoMemory, Rgba};
 use std::alloc::Global;
 use std::marker::Model;
@@ -60,11 +60,7 @@ impl Canvas for PixelCanvas {
     ghost use Rattle.std.specs.Prelude.{None};
     ghost use Rattle.cv_canvas.specs.Pixels.{pixel_in};
 
-    ghost width = { λ canvas. canvas.width };
-
-    ghost height = { λ canvas. canvas.height };
-
-    ghost ink = { λ canvas. None };
+    ghost frame = { λ canvas. record { width = canvas.width; height = canvas.height; ink = None } };
 
     ghost at = { pixel_in };
 
