@@ -2,3 +2,4 @@
 pub mod Canvas
 pub mod Mixing
 pub mod Pixels
+pub mod Cover

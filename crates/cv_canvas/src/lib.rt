@@ -6,9 +6,11 @@
 #![tactic(auto)]
 
 mod canvas;
+mod cover;
 mod mixing;
 mod pixels;
 
 pub use canvas::Canvas;
+pub use cover::Cover;
 pub use mixing::lay_on;
 pub use pixels::PixelCanvas;
