@@ -1,2 +1,3 @@
 -- The project that `quick` paints.
 pub mod Plain
+pub mod Layings

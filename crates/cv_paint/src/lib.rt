@@ -6,8 +6,10 @@
 #![tactic(auto)]
 
 mod hits;
+mod layings;
 mod plain;
 mod sides;
+mod stand_in;
 mod strokes;
 
 pub use plain::quick;
