@@ -1,3 +1,4 @@
 -- What the proofs of this crate share.
 pub mod LayLemmas
 pub mod LayingLemmas
+pub mod MaskLemmas

@@ -1,3 +1,5 @@
 -- The project that `quick` paints.
 pub mod Plain
 pub mod Layings
+pub mod Finish
+pub mod Masks

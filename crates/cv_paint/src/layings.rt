@@ -20,8 +20,8 @@ use std::sync::ledger::Ledger;
 /// The memory that a painting uses from feature to feature. It holds nothing that a caller can see.
 #[derive(Drop)]
 pub struct Workspace {
-    scratch: Scratch,
-    runs: Runs,
+    pub(crate) scratch: Scratch,
+    pub(crate) runs: Runs,
 }
 
 impl Workspace {

@@ -5,13 +5,17 @@
 //! no handle.
 #![tactic(auto)]
 
+mod error;
+mod finish;
 mod hits;
 mod layings;
+mod masks;
 mod plain;
 mod sides;
 mod stand_in;
 mod strokes;
 
+pub use error::PaintError;
 pub use plain::quick;
 
 #[cfg(test)]
