@@ -1,6 +1,6 @@
 -- Runs: that runs in reading order are apart and few, what is added row by row, and runs that are joined.
-use Rattle.std.proofs.Common.{◌≡◌, ◌∙◌, sym, ap, refl, ℕ, suc, max, ◌+◌, ◌-◌, ◌*◌, ◌<◌, ◌≤◌, nat_lt, nat_le, ◌==◌, ◌⊎◌, inl, inr, Bool, true, false, ◌&&◌, ◌||◌, if◌then◌else◌, List, [], ◌∷◌, ◌++◌, length, map, sum_by, arith}
-use Rattle.std.specs.List.{All, list_any}
+use Rattle.std.proofs.Common.{◌≡◌, ◌∙◌, sym, ap, refl, ℕ, suc, ◌+◌, ◌-◌, ◌*◌, ◌<◌, ◌≤◌, nat_lt, ◌==◌, ◌⊎◌, inl, inr, Bool, true, false, ◌&&◌, ◌||◌, List, [], ◌∷◌, ◌++◌, sum_by, arith}
+use Rattle.std.specs.List.{All}
 use Rattle.std.proofs.lemmas.Bool.Decides.{nat_tests}
 use Rattle.std.proofs.lemmas.List.Elements.{All-nil, All-cons, All-head, All-tail, All-append}
 use Rattle.std.proofs.lemmas.List.Folds.{list_any-append}
@@ -10,7 +10,7 @@ use Rattle.cv_model.specs.declared.span.Span.{Span}
 use Rattle.cv_geom.specs.declared.runs.Run.{Run}
 use Rattle.cv_geom.specs.declared.runs.Area.{Area}
 use Rattle.cv_geom.specs.Spans.{is_in, is_covered, AreApart, AreRuns}
-use Rattle.cv_geom.specs.Runs.{is_on, is_on_any, IsWithin, IsApart, IsArea, IsIn, LiesIn, BeginsAt, AreInOrder, AreRunsOf, Adds, in_row, size_of, length_of}
+use Rattle.cv_geom.specs.Runs.{is_on, is_on_any, IsWithin, IsApart, IsArea, IsIn, LiesIn, BeginsAt, AreInOrder, AreRunsOf, Adds, Unites, in_row, size_of, length_of}
 
 -- a pixel before runs in reading order lies on none
 before-begin : (i j a b : ℕ) (run : Run) → BeginsAt a b run → (j < b) ⊎ ((j ≡ b) × (i < a)) → is_on run i j ≡ false
@@ -223,3 +223,53 @@ adds-all test area row old new end told = record {
       let here = told.covered i j is in
       rw less at here;
 }
+
+-- ---- runs that are put one after the other
+
+-- what is still to be added makes what was added whole
+pub record StillAdds (test rest : ℕ → ℕ → Bool) (area : Area) (old now : List Run) : Type 0 where
+  pub within : All (LiesIn area) old → All (LiesIn area) now
+  pub covered : (i j : ℕ) → IsIn area i j → (is_on_any i j now || rest i j) ≡ (is_on_any i j old || test i j)
+
+pub still-start : (test : ℕ → ℕ → Bool) (area : Area) (runs : List Run) → StillAdds test test area runs runs
+still-start test area runs = record { within = λ all. all; covered = λ i j is. refl }
+
+or-none : (b : Bool) → (b || false) ≡ b
+or-none true = refl
+or-none false = refl
+
+or-assoc : (a b c : Bool) → ((a || b) || c) ≡ (a || (b || c))
+or-assoc true b c = refl
+or-assoc false b c = refl
+
+pub still-done :
+    (test rest : ℕ → ℕ → Bool) (area : Area) (old now : List Run) → ((i j : ℕ) → rest i j ≡ false)
+    → StillAdds test rest area old now → Adds test area old now
+still-done test rest area old now none told = record {
+  within = told.within;
+  covered = λ i j is.
+      sym (or-none (is_on_any i j now)) ∙ ap (λ b. is_on_any i j now || b) (sym (none i j)) ∙ told.covered i j is;
+}
+
+pub still-step :
+    (test here rest later : ℕ → ℕ → Bool) (area : Area) (old now new : List Run)
+    → ((i j : ℕ) → rest i j ≡ (here i j || later i j)) → StillAdds test rest area old now → Adds here area now new
+    → StillAdds test later area old new
+still-step test here rest later area old now new split told added = record {
+  within = λ all. added.within (told.within all);
+  covered = λ i j is.
+      ap (λ b. b || later i j) (added.covered i j is) ∙ or-assoc (is_on_any i j now) (here i j) (later i j)
+      ∙ ap (λ b. is_on_any i j now || b) (sym (split i j)) ∙ told.covered i j is;
+}
+
+-- no runs yet
+pub adds-first :
+    (test : ℕ → ℕ → Bool) (area : Area) (runs made : List Run) → Adds test area [] runs → Unites runs made
+    → AreRunsOf test area made
+adds-first test area runs made added told =
+    let all = added.within (All-nil (LiesIn area)) in
+    record {
+      within = told.within area all;
+      order = told.order area all;
+      covered = λ i j is. told.covered i j ∙ added.covered i j is;
+    }

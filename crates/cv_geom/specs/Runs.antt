@@ -1,7 +1,7 @@
 -- Runs: columns of rows of pixels, and the runs of an area that have exactly the pixels at which a test holds.
 --
 -- Source: this project's own.
-use Rattle.std.specs.Prelude.{ℕ, max, ◌+◌, ◌-◌, ◌*◌, ◌≡◌, ◌==◌, ◌<◌, ◌≤◌, nat_lt, nat_le, Bool, true, false, ◌&&◌, ◌||◌, if◌then◌else◌, ◌⊎◌, List, [], ◌∷◌, map, sum_by, All}
+use Rattle.std.specs.Prelude.{ℕ, max, ◌-◌, ◌*◌, ◌≡◌, ◌==◌, ◌<◌, ◌≤◌, nat_lt, nat_le, Bool, true, false, ◌&&◌, ◌||◌, if◌then◌else◌, ◌⊎◌, List, [], ◌∷◌, map, sum_by, All}
 use Rattle.std.specs.List.{list_any, flat_map}
 use Rattle.cv_model.specs.declared.span.Span.{Span}
 use Rattle.cv_model.specs.Positions.{Position}

@@ -2,3 +2,4 @@
 pub mod SideLemmas
 pub mod DotLemmas
 pub mod BetweenLemmas
+pub mod OutlineLemmas

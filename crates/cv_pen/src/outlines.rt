@@ -39,7 +39,8 @@ pub fn ring_runs<L: Ledger>(
 {
     into.clear();
     put_polygons(polygons, width, view, area, into, steps)?;
-    into.unite()
+    into.unite()?;
+    Ok(())
 }
 
 /// Puts the runs of an area that a pen hits while it follows some lines into a list in place of what it
@@ -64,7 +65,8 @@ pub fn line_runs<L: Ledger>(
 {
     into.clear();
     put_lines(lines, width, view, area, into, steps)?;
-    into.unite()
+    into.unite()?;
+    Ok(())
 }
 
 /// Puts the runs of an area that markers on some points cover into a list in place of what it held.
@@ -89,7 +91,8 @@ pub fn marker_runs<L: Ledger>(
 {
     into.clear();
     put_markers(points, shape, size, view, area, into, steps)?;
-    into.unite()
+    into.unite()?;
+    Ok(())
 }
 
 /// Puts the runs of an area that a pen hits along the rings of some polygons behind the others.

@@ -31,7 +31,8 @@ pub fn fill_runs<L: Ledger>(
 {
     into.clear();
     put_polygons(scratch, polygons, view, area, into, steps)?;
-    into.unite()
+    into.unite()?;
+    Ok(())
 }
 
 /// Puts the runs of an area inside polygons behind the others.

@@ -1,7 +1,6 @@
-use Rattle.std.proofs.Common.{◌≡◌, ◌∙◌, sym, ap, List, rules}
+use Rattle.std.proofs.Common.{◌≡◌, ◌∙◌, sym, ap, rules}
 use Rattle.std.proofs.lemmas.List.Sorted.{answers_always}
-use Rattle.cv_geom.specs.declared.runs.Run.{Run}
-use Rattle.cv_geom.specs.Runs.{Unites, united}
+use Rattle.cv_geom.specs.Runs.{united}
 use Rattle.cv_geom.proofs.UniteLemmas.{place_of, unites-moved}
 use Rattle.cv_geom.proofs.runs.Runs.unite.Goals as goal
 

@@ -1,0 +1,38 @@
+use Rattle.std.proofs.Common.{◌≡◌, ◌∙◌, sym, ap, ◌+◌, ◌<◌, ◌∷◌, drop, length, arith}
+use Rattle.std.specs.List.{list_any}
+use Rattle.std.proofs.lemmas.List.{drop_more}
+use Rattle.cv_model.specs.Polygons.{edges_from}
+use Rattle.cv_model.specs.Pens.{is_near}
+use Rattle.cv_model.specs.Pictures.{half_side}
+use Rattle.cv_model.specs.Views.{centre_of}
+use Rattle.cv_geom.specs.Runs.{rows_of}
+use Rattle.cv_geom.proofs.RunLemmas.{still-step}
+use Rattle.cv_pen.proofs.OutlineLemmas.{one-paid}
+use Rattle.cv_pen.proofs.outlines.put_path.Goals as goal
+
+pub loop-point-preserved : goal.loop-point-preserved
+loop-point-preserved g c =
+    let v = c.args.view.now in
+    let xs = c.args.points.now in
+    let at = c.loop-point.point-index in
+    let item = c.point-item.result in
+    let before = c.loop-point.before in
+    let told = c.loop-point.invariant in
+    let r = half_side v c.args.width in
+    let less : at < length xs = omega (arith, c.loop-point-test.true, c.loop-point.auto.point-index-end) in
+    let is : drop at xs ≡ item ∷ drop (at + 1) xs =
+    drop_more xs at item less ∙ ap (λ x. x ∷ drop (at + 1) xs) (sym c.point-item.is) in
+    record {
+      added =
+          still-step
+          (λ i j. list_any (is_near r (centre_of v i j)) (edges_from c.args.first xs))
+          (λ i j. is_near r (centre_of v i j) (before, item))
+          (λ i j. list_any (is_near r (centre_of v i j)) (edges_from before (drop at xs)))
+          (λ i j. list_any (is_near r (centre_of v i j)) (edges_from item (drop (at + 1) xs))) c.args.area
+          c.args.into.now c.loop-point.into c.put_segment.new.into
+          (λ i j. ap (λ ps. list_any (is_near r (centre_of v i j)) (edges_from before ps)) is) told.added
+          c.in_ok-put_segment.ensures.added;
+      cost =
+          one-paid c.loop-point.steps c.put_segment.new.steps _ (rows_of c.args.area) 1 (length (drop (at + 1) xs))
+          (length (drop at xs)) (ap length is ∙ omega arith) told.cost (omega (arith, c.in_ok-put_segment.ensures.cost));
+    }

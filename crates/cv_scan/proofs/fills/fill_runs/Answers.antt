@@ -1,0 +1,11 @@
+use Rattle.std.specs.List.{list_any}
+use Rattle.cv_model.specs.Polygons.{is_inside}
+use Rattle.cv_model.specs.Views.{centre_of}
+use Rattle.cv_geom.proofs.RunLemmas.{adds-first}
+use Rattle.cv_scan.proofs.fills.fill_runs.Goals as goal
+
+pub returns-clause-runs : goal.returns-clause-runs
+returns-clause-runs g c =
+    let added = rw c.clear.ensures at c.in_ok-put_polygons.ensures.added in
+    adds-first (λ i j. list_any (is_inside (centre_of c.args.view.now i j)) c.args.polygons.now) c.args.area
+    c.put_polygons.new.into c.unite.new.self added c.in_ok-unite.ensures
