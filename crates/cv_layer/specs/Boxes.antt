@@ -5,15 +5,23 @@ use Rattle.cv_model.specs.declared.feature.Feature.{Feature}
 use Rattle.cv_model.specs.Geometries.{GeometryLists, vertices_of}
 use Rattle.cv_model.specs.Positions.{Position, Rectangle}
 
+-- the box of one position
+abbrev pub box_at : Position → Rectangle
+box_at p = record { xmin = p.x; ymin = p.y; xmax = p.x; ymax = p.y }
+
 -- the least box that holds a position and what a box holds
-abbrev pub stretched : Option Rectangle → Position → Option Rectangle
-stretched None p = Some (record { xmin = p.x; ymin = p.y; xmax = p.x; ymax = p.y })
-stretched (Some b) p = Some (record {
+abbrev pub widened : Rectangle → Position → Rectangle
+widened b p = record {
   xmin = int_min b.xmin p.x;
   ymin = int_min b.ymin p.y;
   xmax = int_max b.xmax p.x;
   ymax = int_max b.ymax p.y;
-})
+}
+
+-- the same where there may be no box yet
+abbrev pub stretched : Option Rectangle → Position → Option Rectangle
+stretched None p = Some (box_at p)
+stretched (Some b) p = Some (widened b p)
 
 -- the least box that holds these points too, these lines or rings, and these polygons
 abbrev pub round_points : Option Rectangle → List Position → Option Rectangle

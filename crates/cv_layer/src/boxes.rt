@@ -1,27 +1,62 @@
 //! The boxes of geometries.
 
 ghost use Rattle.std.specs.Prelude.{◌≡◌};
-ghost use Rattle.cv_layer.specs.Boxes.{stretched, round_points, round_lines, round_polygons, box_of};
+ghost use Rattle.std.specs.Int.{int_min, int_max};
+ghost use Rattle.cv_model.specs.Positions.{IsCoordinate};
+ghost use Rattle.cv_layer.specs.Boxes.{box_at, widened, stretched, round_points, round_lines};
+ghost use Rattle.cv_layer.specs.Boxes.{round_polygons, box_of};
 
 use cv_model::{Extent, Geometry, Line, Point, Polygon};
 
+/// The lesser of two coordinates.
+fn lesser(a: i64, b: i64) -> i64
+    requires { IsCoordinate a × IsCoordinate b }
+    ensures value { result ≡ int_min a b }
+    ensures range { IsCoordinate result }
+{
+    if b < a { b } else { a }
+}
+
+/// The greater of two coordinates.
+fn greater(a: i64, b: i64) -> i64
+    requires { IsCoordinate a × IsCoordinate b }
+    ensures value { result ≡ int_max a b }
+    ensures range { IsCoordinate result }
+{
+    if b < a { a } else { b }
+}
+
+/// The box of one point.
+fn box_at(point: Point) -> Extent
+    ensures { result ≡ box_at point }
+{
+    Extent {
+        xmin: point.x,
+        ymin: point.y,
+        xmax: point.x,
+        ymax: point.y,
+    }
+}
+
 /// The least box that holds a point and what a box holds.
+fn widened(held: Extent, point: Point) -> Extent
+    ensures { result ≡ widened held point }
+{
+    Extent {
+        xmin: lesser(held.xmin, point.x),
+        ymin: lesser(held.ymin, point.y),
+        xmax: greater(held.xmax, point.x),
+        ymax: greater(held.ymax, point.y),
+    }
+}
+
+/// The least box that holds a point and what a box holds, if there is one.
 fn stretched(held: Option<Extent>, point: Point) -> Option<Extent>
     ensures { result ≡ stretched held point }
 {
     match held {
-        None => Some(Extent {
-            xmin: point.x,
-            ymin: point.y,
-            xmax: point.x,
-            ymax: point.y,
-        }),
-        Some(held) => Some(Extent {
-            xmin: held.xmin.min(point.x),
-            ymin: held.ymin.min(point.y),
-            xmax: held.xmax.max(point.x),
-            ymax: held.ymax.max(point.y),
-        }),
+        None => Some(box_at(point)),
+        Some(held) => Some(widened(held, point)),
     }
 }
 

@@ -1,0 +1,2 @@
+-- Lemmas about the definitions of layers.
+pub mod BoxLemmas
