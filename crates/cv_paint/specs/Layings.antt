@@ -2,6 +2,9 @@
 use Rattle.std.specs.Prelude.{ℕ, ◌≡◌, ◌<◌, List, Option, Some, None, IfSome}
 use Rattle.cv_model.specs.declared.colour.Rgba.{Rgba}
 use Rattle.cv_model.specs.declared.symbol.Symbol.{Symbol}
+use Rattle.cv_model.specs.declared.feature.Feature.{Feature}
+use Rattle.cv_model.specs.Layers.{Parts}
+use Rattle.cv_model.specs.Texts.{feature_symbol}
 use Rattle.cv_model.specs.Positions.{Position}
 use Rattle.cv_model.specs.Views.{PixelGrid, centre_of}
 use Rattle.cv_model.specs.Pens.{PenParts}
@@ -31,3 +34,8 @@ pub record TakesSymbol (ink : Option Rgba) (symbol : Symbol) : Type 0 where
   pub fill : (colour : Rgba) → symbol.fill ≡ Some colour → IsInk ink colour
   pub pen : (pen : PenParts) → symbol.pen ≡ Some pen → IsInk ink pen.colour
   pub marker : (marker : MarkerParts) → symbol.marker ≡ Some marker → IsInk ink marker.colour
+
+-- a canvas takes the colours of all symbols that features get
+abbrev pub TakesLayer : Option Rgba → Parts → Type 0
+TakesLayer ink parts =
+    (feature : Feature) (symbol : Symbol) → feature_symbol parts feature ≡ Some symbol → TakesSymbol ink symbol

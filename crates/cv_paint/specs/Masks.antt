@@ -1,7 +1,11 @@
 -- What a mask covers.
-use Rattle.std.specs.Prelude.{ℕ, ◌≡◌, ◌<◌, Bool, true, ◌||◌, List, fold}
+use Rattle.std.specs.Prelude.{ℕ, ◌≡◌, ◌<◌, Bool, true, ◌||◌, List, fold, Option}
 use Rattle.cv_model.specs.Positions.{Position}
 use Rattle.cv_model.specs.Views.{PixelGrid, centre_of}
+use Rattle.cv_model.specs.Layers.{Core}
+use Rattle.cv_model.specs.Rasters.{Raster}
+use Rattle.cv_model.specs.Pictures.{is_shown}
+use Rattle.cv_paint.specs.Finish.{IsMaskOf, shows_at}
 use Rattle.cv_geom.specs.declared.runs.Run.{Run}
 use Rattle.cv_canvas.specs.Canvas.{changed}
 
@@ -12,3 +16,8 @@ with_covered before runs = fold (changed (λ _. true)) before runs
 -- each pixel of a view is covered where it was, and where a test holds at its centre
 pub record Covers (view : PixelGrid) (test : Position → Bool) (before after : ℕ → ℕ → Bool) : Type 0 where
   pub at : (i j : ℕ) → i < view.w → j < view.h → after i j ≡ (before i j || test (centre_of view i j))
+
+-- a mask of the size of a view shows what a mask layer shows at each centre
+pub record IsMask (view : PixelGrid) (layer : Option Core) (mask : Option (Raster Bool)) : Type 0 where
+  pub sized : IsMaskOf view mask
+  pub shows : (i j : ℕ) → i < view.w → j < view.h → shows_at mask i j ≡ is_shown (centre_of view i j) layer

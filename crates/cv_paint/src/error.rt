@@ -1,6 +1,7 @@
 //! Why a painting was given up.
 
 ghost use Rattle.std.specs.Prelude.{◌≡◌};
+ghost use Rattle.cv_paint.specs.declared.error.PaintError.TheVariants.{NoMemory};
 
 use std::alloc::AllocError;
 

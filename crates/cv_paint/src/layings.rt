@@ -10,10 +10,11 @@ ghost use Rattle.cv_geom.specs.Runs.{IsArea};
 ghost use Rattle.cv_canvas.specs.Canvas.{LiesOn, IsInk, with_runs};
 ghost use Rattle.cv_paint.specs.Layings.{IsSized, Lays, TakesSymbol, whole_of};
 
-use crate::stand_in::{Scratch, fill_runs, line_runs, marker_runs, ring_runs};
 use cv_canvas::Canvas;
 use cv_geom::{Area, Run, Runs, Steps};
 use cv_model::{Geometry, Marker, NoMemory, Pen, Rgba, Span, Symbol, View};
+use cv_pen::{line_runs, marker_runs, ring_runs};
+use cv_scan::{Scratch, fill_runs};
 use std::alloc::Global;
 use std::sync::ledger::Ledger;
 

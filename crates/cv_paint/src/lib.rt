@@ -6,14 +6,15 @@
 #![tactic(auto)]
 
 mod error;
+mod features;
 mod finish;
 mod hits;
 mod layings;
 mod masks;
 mod plain;
 mod sides;
-mod stand_in;
 mod strokes;
+mod texts;
 
 pub use error::PaintError;
 pub use plain::quick;
