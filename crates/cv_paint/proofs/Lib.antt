@@ -2,3 +2,5 @@
 pub mod LayLemmas
 pub mod LayingLemmas
 pub mod MaskLemmas
+pub mod CellLemmas
+pub mod PaintedLemmas

@@ -3,3 +3,4 @@ pub mod Plain
 pub mod Layings
 pub mod Finish
 pub mod Masks
+pub mod Cells

@@ -4,11 +4,14 @@ ghost use Rattle.std.specs.Prelude.{◌≡◌, ◌<◌, ◌≤◌, ◌++◌, Boo
 ghost use Rattle.cv_model.specs.Rasters.{row_of, pixels_of};
 ghost use Rattle.cv_canvas.specs.Cover.{is_covered_in};
 ghost use Rattle.cv_paint.specs.Layings.{IsSized};
+ghost use Rattle.cv_paint.specs.Cells.{cell_pixel};
 ghost use Rattle.cv_paint.specs.Finish.{shown, masked, kept, kept_in, IsMaskOf, StopCause};
 
+use crate::cells::cells_row;
 use crate::error::PaintError;
 use cv_canvas::{Canvas, Cover};
-use cv_model::{NoMemory, Rgba, RgbaList, View};
+use cv_layer::Cells;
+use cv_model::{NoMemory, Rgba, RgbaList, Style, View};
 use cv_outside::Stop;
 use std::alloc::Global;
 
@@ -106,6 +109,57 @@ pub fn put_rows<C: Canvas, S: Stop>(
             return Err(PaintError::Stopped);
         }
         put_row(canvas, mask, view, j, &mut row, pixels)?;
+    }
+    Ok(())
+}
+
+/// Puts the pixels of a grid's row, as a mask shows them, behind others.
+#[tactic(auto, using(crate::proofs::MaskLemmas::masked_row))]
+fn put_cells_row(
+    cells: &Cells,
+    style: &Style,
+    mask: &Option<Cover>,
+    view: &View,
+    j: u32,
+    row: &mut [Rgba],
+    pixels: &mut RgbaList,
+) -> Result<(), NoMemory>
+    requires mask { IsMaskOf view.now mask.now }
+    requires row { j < view.now.h }
+    requires length { length row.old ≡ view.now.w }
+    ensures { OnOk result (pixels.new
+        ≡ pixels.old ++ row_of view.now.w (masked mask.now (cell_pixel style.now cells.now view.now)) j) }
+{
+    cells_row(cells, style, view, j, row);
+    mask_row(mask, view, j, row);
+    put_all(pixels, row)?;
+    Ok(())
+}
+
+/// Puts the pixels of a grid, as a mask shows them, behind others, row by row from the top.
+///
+/// The stop is asked before each row.
+pub fn put_cells<S: Stop>(
+    alloc: Global,
+    cells: &Cells,
+    style: &Style,
+    mask: &Option<Cover>,
+    view: &View,
+    stop: &mut S,
+    pixels: &mut RgbaList,
+) -> Result<(), PaintError>
+    requires { IsMaskOf view.now mask.now }
+    ensures counts { S.yeses stop.old ≤ S.yeses stop.new }
+    ensures ok { OnOk result (pixels.new ≡ pixels.old
+        ++ pixels_of view.now.w view.now.h (masked mask.now (cell_pixel style.now cells.now view.now))) }
+    ensures err { IfErr result (λ e. StopCause e (S.yeses stop.old) (S.yeses stop.new)) }
+{
+    let mut row = vec![in alloc; CLEAR; view.w as usize]?;
+    for j in 0..view.h {
+        if stop.poll() {
+            return Err(PaintError::Stopped);
+        }
+        put_cells_row(cells, style, mask, view, j, &mut row, pixels)?;
     }
     Ok(())
 }

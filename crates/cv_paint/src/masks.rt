@@ -1,22 +1,21 @@
 //! What a mask layer shows, covered run by run.
 
-ghost use Rattle.std.specs.Prelude.{◌≡◌, ◌≤◌, OnOk, IfOk, IfErr, All};
+ghost use Rattle.std.specs.Prelude.{◌≡◌, ◌≤◌, OnOk, IfErr, All};
 ghost use Rattle.std.specs.List.{list_any};
 ghost use Rattle.cv_model.specs.Pictures.{is_covered, is_feature_at};
 ghost use Rattle.cv_geom.specs.Runs.{IsWithin};
 ghost use Rattle.cv_canvas.specs.Cover.{is_covered_in};
 ghost use Rattle.cv_paint.specs.Finish.{HasSize, StopCause};
-ghost use Rattle.cv_paint.specs.Masks.{Covers, IsMask, with_covered};
+ghost use Rattle.cv_paint.specs.Masks.{Covers, with_covered};
 
 use crate::error::PaintError;
 use crate::layings::{Workspace, whole_of};
 use cv_canvas::Cover;
 use cv_geom::{Run, Steps};
-use cv_layer::{FeatureRow, LayerContents, LayerInput, Table};
+use cv_layer::{FeatureRow, Table};
 use cv_model::{Geometry, NoMemory, View};
 use cv_outside::Stop;
 use cv_scan::fill_runs;
-use std::alloc::Global;
 use std::sync::ledger::Ledger;
 
 /// Covers the pixels of these runs.
@@ -96,7 +95,7 @@ fn cover_rows<L: Ledger>(
 
 /// Covers the pixels whose centres some polygon of some feature of a table has inside. The stop is asked now
 /// and then.
-fn cover_table<S: Stop, L: Ledger>(
+pub fn cover_table<S: Stop, L: Ledger>(
     cover: &mut Cover,
     table: &Table,
     view: &View,
