@@ -76,12 +76,12 @@ pub lays_runs : (view : PixelGrid) (hit : Position → Bool) (colour : Rgba) (be
     → after ≡ with_runs colour before runs → Lays view (λ p. laid_where (hit p) colour) before after
 lays_runs view hit colour before after runs are laid = record {
   at = λ i j column row.
-    let inside : IsIn (whole_of view) i j =
-        record { west = omega arith; east = column; north = omega arith; south = row } in
-    ap (λ (f : ℕ → ℕ → Rgba). f i j) laid
-    ∙ laid_once colour before runs i j (runs-apart _ _ _ are)
-    ∙ ap (λ (on : Bool). if on then over colour (before i j) else before i j) (are.covered i j inside)
-    ∙ where_is (hit (centre_of view i j)) colour (before i j);
+      let inside : IsIn (whole_of view) i j =
+      record { west = omega arith; east = column; north = omega arith; south = row } in
+      ap (λ (f : ℕ → ℕ → Rgba). f i j) laid
+      ∙ laid_once colour before runs i j (runs-apart _ _ _ are)
+      ∙ ap (λ (on : Bool). if on then over colour (before i j) else before i j) (are.covered i j inside)
+      ∙ where_is (hit (centre_of view i j)) colour (before i j);
 }
 
 -- the same, of runs as a painter has them
@@ -104,9 +104,9 @@ pub lays_both : (view : PixelGrid) (s t : Position → List Rgba) (before mid af
     → Lays view s before mid → Lays view t mid after → Lays view (λ p. s p ++ t p) before after
 lays_both view s t before mid after first second = record {
   at = λ i j column row.
-    second.at i j column row
-    ∙ ap (λ b. laid_on b (t (centre_of view i j))) (first.at i j column row)
-    ∙ sym (laid_more (before i j) (s (centre_of view i j)) (t (centre_of view i j)));
+      second.at i j column row
+      ∙ ap (λ b. laid_on b (t (centre_of view i j))) (first.at i j column row)
+      ∙ sym (laid_more (before i j) (s (centre_of view i j)) (t (centre_of view i j)));
 }
 
 -- the strokes of one feature more are laid
@@ -116,14 +116,14 @@ pub lays_more : (view : PixelGrid) (s : Position → Feature → List Rgba) (row
     → Lays view (λ p. flat_map (s p) (take (i + 1) rows)) before after
 lays_more view s rows i row before mid after below read first second = record {
   at = λ x y column line.
-    let p = centre_of view x y in
-    let more : take (i + 1) rows ≡ take i rows ++ row ∷ [] =
-        take_more rows i row below ∙ ap (λ (r : Feature). take i rows ++ r ∷ []) (sym read) in
-    let same : flat_map (s p) (take (i + 1) rows) ≡ flat_map (s p) (take i rows) ++ s p row =
-        ap (flat_map (s p)) more ∙ flat_map-append (s p) (take i rows) (row ∷ [])
-        ∙ ap (λ (zs : List Rgba). flat_map (s p) (take i rows) ++ zs) (append-nil (s p row)) in
-    (lays_both view (λ p. flat_map (s p) (take i rows)) (λ p. s p row) before mid after first second).at x y column line
-    ∙ ap (λ (zs : List Rgba). laid_on (before x y) zs) (sym same);
+      let p = centre_of view x y in
+      let more : take (i + 1) rows ≡ take i rows ++ row ∷ [] =
+      take_more rows i row below ∙ ap (λ (r : Feature). take i rows ++ r ∷ []) (sym read) in
+      let same : flat_map (s p) (take (i + 1) rows) ≡ flat_map (s p) (take i rows) ++ s p row =
+      ap (flat_map (s p)) more ∙ flat_map-append (s p) (take i rows) (row ∷ [])
+      ∙ ap (λ (zs : List Rgba). flat_map (s p) (take i rows) ++ zs) (append-nil (s p row)) in
+      (lays_both view (λ p. flat_map (s p) (take i rows)) (λ p. s p row) before mid after first second).at x y column line
+      ∙ ap (λ (zs : List Rgba). laid_on (before x y) zs) (sym same);
 }
 
 -- a run of a list stands within it
@@ -131,7 +131,7 @@ pub run_within : {A : Type 0} (rows run : List A) (i : ℕ) → i ≤ length row
     → i + length run ≤ length rows
 run_within rows run i below is =
     let e : min (length run) (length rows - i) ≡ length run =
-        sym (length-take (length run) (drop i rows) ∙ ap (λ n. min (length run) n) (length-drop i rows)) ∙ ap length is in
+    sym (length-take (length run) (drop i rows) ∙ ap (λ n. min (length run) n) (length-drop i rows)) ∙ ap length is in
     omega arith
 
 -- those of a run of features more
@@ -141,14 +141,14 @@ pub lays_run : (view : PixelGrid) (s : Position → Feature → List Rgba) (rows
     → Lays view (λ p. flat_map (s p) (take (i + length run) rows)) before after
 lays_run view s rows run i before mid after is first second = record {
   at = λ x y column line.
-    let p = centre_of view x y in
-    let more : take (i + length run) rows ≡ take i rows ++ run =
-        take-add i (length run) rows ∙ ap (λ (rs : List Feature). take i rows ++ rs) is in
-    let same : flat_map (s p) (take (i + length run) rows) ≡ flat_map (s p) (take i rows) ++ flat_map (s p) run =
-        ap (flat_map (s p)) more ∙ flat_map-append (s p) (take i rows) run in
-    (lays_both view (λ p. flat_map (s p) (take i rows)) (λ p. flat_map (s p) run) before mid after first second).at
-    x y column line
-    ∙ ap (λ (zs : List Rgba). laid_on (before x y) zs) (sym same);
+      let p = centre_of view x y in
+      let more : take (i + length run) rows ≡ take i rows ++ run =
+      take-add i (length run) rows ∙ ap (λ (rs : List Feature). take i rows ++ rs) is in
+      let same : flat_map (s p) (take (i + length run) rows) ≡ flat_map (s p) (take i rows) ++ flat_map (s p) run =
+      ap (flat_map (s p)) more ∙ flat_map-append (s p) (take i rows) run in
+      (lays_both view (λ p. flat_map (s p) (take i rows)) (λ p. flat_map (s p) run) before mid after first second).at
+      x y column line
+      ∙ ap (λ (zs : List Rgba). laid_on (before x y) zs) (sym same);
 }
 
 -- the features to the end are all features
@@ -164,8 +164,8 @@ pub found_behind : (p : Feature → Bool) (rows run : List Feature) (i : ℕ) �
     → find p run ≡ None → find p (drop (i + length run) rows) ≡ find p (drop i rows)
 found_behind p rows run i is none =
     let split : drop i rows ≡ run ++ drop (i + length run) rows =
-        sym (take-append-drop (length run) (drop i rows)) ∙ ap (λ (rs : List Feature). rs ++ drop (length run) (drop i rows)) is
-        ∙ ap (λ (rs : List Feature). run ++ rs) (drop-drop (length run) i rows) in
+    sym (take-append-drop (length run) (drop i rows)) ∙ ap (λ (rs : List Feature). rs ++ drop (length run) (drop i rows)) is
+    ∙ ap (λ (rs : List Feature). run ++ rs) (drop-drop (length run) i rows) in
     sym (ap (find p) split ∙ find_append p run (drop (i + length run) rows) none)
 
 -- a run of a list in which something was found
@@ -173,5 +173,5 @@ pub found_in : (p : Feature → Bool) (rows run : List Feature) (i : ℕ) (row :
     → take (length run) (drop i rows) ≡ run → find p run ≡ Some row → find p (drop i rows) ≡ Some row
 found_in p rows run i row is found =
     let split : drop i rows ≡ run ++ drop (length run) (drop i rows) =
-        sym (take-append-drop (length run) (drop i rows)) ∙ ap (λ (rs : List Feature). rs ++ drop (length run) (drop i rows)) is in
+    sym (take-append-drop (length run) (drop i rows)) ∙ ap (λ (rs : List Feature). rs ++ drop (length run) (drop i rows)) is in
     ap (find p) split ∙ find_first p run (drop (length run) (drop i rows)) row found

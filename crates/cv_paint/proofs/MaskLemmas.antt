@@ -53,12 +53,12 @@ pub covers_where : (view : PixelGrid) (test : Position → Bool) (before after :
     → Covers view test before after
 covers_where view test before after area made runs whole held are covered = record {
   at = λ i j column row.
-    let inside : IsIn (whole_of view) i j =
-        record { west = omega arith; east = column; north = omega arith; south = row } in
-    ap (λ (f : ℕ → ℕ → Bool). f i j) covered
-    ∙ covered_by before runs i j
-    ∙ ap (λ (rs : List Run). before i j || is_on_any i j rs) held
-    ∙ ap (λ (on : Bool). before i j || on) (are.covered i j (subst (λ a. IsIn a i j) (sym whole) inside));
+      let inside : IsIn (whole_of view) i j =
+      record { west = omega arith; east = column; north = omega arith; south = row } in
+      ap (λ (f : ℕ → ℕ → Bool). f i j) covered
+      ∙ covered_by before runs i j
+      ∙ ap (λ (rs : List Run). before i j || is_on_any i j rs) held
+      ∙ ap (λ (on : Bool). before i j || on) (are.covered i j (subst (λ a. IsIn a i j) (sym whole) inside));
 }
 
 -- one pixel more is kept where it is shown
@@ -100,9 +100,9 @@ covers_both : (view : PixelGrid) (s t : Position → Bool) (before mid after : �
     → Covers view t mid after → Covers view (λ p. s p || t p) before after
 covers_both view s t before mid after first second = record {
   at = λ i j column row.
-    second.at i j column row
-    ∙ ap (λ (b : Bool). b || t (centre_of view i j)) (first.at i j column row)
-    ∙ sym (or_or (before i j) (s (centre_of view i j)) (t (centre_of view i j)));
+      second.at i j column row
+      ∙ ap (λ (b : Bool). b || t (centre_of view i j)) (first.at i j column row)
+      ∙ sym (or_or (before i j) (s (centre_of view i j)) (t (centre_of view i j)));
 }
 
 -- the same pixels by another test
@@ -110,7 +110,7 @@ covers_same : (view : PixelGrid) (s t : Position → Bool) (before after : ℕ �
     → Covers view s before after → Covers view t before after
 covers_same view s t before after same covers = record {
   at = λ i j column row.
-    covers.at i j column row ∙ ap (λ (b : Bool). before i j || b) (same (centre_of view i j));
+      covers.at i j column row ∙ ap (λ (b : Bool). before i j || b) (same (centre_of view i j));
 }
 
 -- one feature more is covered
@@ -120,7 +120,7 @@ pub covers_more : (view : PixelGrid) (s : Position → Feature → Bool) (rows :
     → Covers view (λ p. list_any (s p) (take (i + 1) rows)) before after
 covers_more view s rows i row before mid after below read first second =
     let more : take (i + 1) rows ≡ take i rows ++ row ∷ [] =
-        take_more rows i row below ∙ ap (λ (r : Feature). take i rows ++ r ∷ []) (sym read) in
+    take_more rows i row below ∙ ap (λ (r : Feature). take i rows ++ r ∷ []) (sym read) in
     covers_same view (λ p. list_any (s p) (take i rows) || s p row) (λ p. list_any (s p) (take (i + 1) rows)) before after
     (λ p. sym (ap (list_any (s p)) more ∙ any_append (s p) (take i rows) (row ∷ [])
     ∙ ap (λ (b : Bool). list_any (s p) (take i rows) || b) (any_one (s p row))))
@@ -133,7 +133,7 @@ pub covers_run : (view : PixelGrid) (s : Position → Feature → Bool) (rows ru
     → Covers view (λ p. list_any (s p) (take (i + length run) rows)) before after
 covers_run view s rows run i before mid after is first second =
     let more : take (i + length run) rows ≡ take i rows ++ run =
-        take-add i (length run) rows ∙ ap (λ (rs : List Feature). take i rows ++ rs) is in
+    take-add i (length run) rows ∙ ap (λ (rs : List Feature). take i rows ++ rs) is in
     covers_same view (λ p. list_any (s p) (take i rows) || list_any (s p) run)
     (λ p. list_any (s p) (take (i + length run) rows)) before after
     (λ p. sym (ap (list_any (s p)) more ∙ any_append (s p) (take i rows) run))

@@ -39,7 +39,7 @@ pub pixels_same : {A : Type 0} (w h : ℕ) (f g : ℕ → ℕ → A) → ((i j :
 unfolding pixels_of
 pixels_same w h f g same =
     rows_same (row_of w f) (row_of w g) 0 h (λ j low high.
-        map_same (λ i. f i j) (λ i. g i j) 0 w (λ i west east. same i j (omega arith) (omega arith)))
+    map_same (λ i. f i j) (λ i. g i j) 0 w (λ i west east. same i j (omega arith) (omega arith)))
 
 -- what is painted, as the mask shows it, is the layer's pixel
 pub painted_pixels : (view : PixelGrid) (parts : Parts) (contents : Contents) (mask : Option (Raster Bool))
@@ -49,9 +49,9 @@ pub painted_pixels : (view : PixelGrid) (parts : Parts) (contents : Contents) (m
 unfolding pixel
 painted_pixels view parts contents mask at own is_mask paints =
     pixels_same view.w view.h (masked mask at) (pixel parts view) (λ i j column row.
-        ap (λ (b : Bool). shown b (at i j)) (is_mask.shows_are i j column row)
-        ∙ ap (λ (c : Rgba). shown (is_shown (centre_of view i j) parts.mask) c)
-        (paints i j column row ∙ ap (λ (k : Contents). painted k parts view (centre_of view i j)) own))
+    ap (λ (b : Bool). shown b (at i j)) (is_mask.shows_are i j column row)
+    ∙ ap (λ (c : Rgba). shown (is_shown (centre_of view i j) parts.mask) c)
+    (paints i j column row ∙ ap (λ (k : Contents). painted k parts view (centre_of view i j)) own))
 
 -- a canvas that takes any colours takes those of any layer
 pub takes_any : (parts : Parts) → TakesLayer None parts
@@ -65,8 +65,8 @@ pub cover_text : (view : PixelGrid) (columns : List (List ℕ)) (features : List
 cover_text view columns features old new sized width height clear covers = record {
   sized = record { width = width ∙ sized.width; height = height ∙ sized.height };
   shows_are = λ i j column row.
-    covers.at i j column row
-    ∙ ap (λ (f : ℕ → ℕ → Bool). f i j || list_any (is_feature_at (centre_of view i j)) features) clear;
+      covers.at i j column row
+      ∙ ap (λ (f : ℕ → ℕ → Bool). f i j || list_any (is_feature_at (centre_of view i j)) features) clear;
 }
 
 -- a grid covers nothing
@@ -83,5 +83,5 @@ pub laid_pixels : (view : PixelGrid) (mask : Option (Raster Bool)) (before after
     → pixels_of view.w view.h (masked mask after) ≡ pixels_of view.w view.h (masked mask (λ i j. laid (s (centre_of view i j))))
 laid_pixels view mask before after s clear lays =
     pixels_same view.w view.h (masked mask after) (masked mask (λ i j. laid (s (centre_of view i j)))) (λ i j column row.
-        ap (λ (c : Rgba). shown (shows_at mask i j) c)
-        (lays.at i j column row ∙ ap (λ (f : ℕ → ℕ → Rgba). laid_on (f i j) (s (centre_of view i j))) clear))
+    ap (λ (c : Rgba). shown (shows_at mask i j) c)
+    (lays.at i j column row ∙ ap (λ (f : ℕ → ℕ → Rgba). laid_on (f i j) (s (centre_of view i j))) clear))

@@ -84,7 +84,14 @@ fn lay_fill<C: Canvas, L: Ledger>(
     };
     let area = whole_of(view);
     let polygons = geometry.polygons();
-    fill_runs(&mut work.scratch, polygons, view, area, &mut work.runs, steps)?;
+    fill_runs(
+        &mut work.scratch,
+        polygons,
+        view,
+        area,
+        &mut work.runs,
+        steps,
+    )?;
     lay_runs(canvas, work.runs.as_slice(), colour);
     Ok(())
 }

@@ -47,7 +47,14 @@ pub fn cover_geometry<L: Ledger>(
 {
     let area = whole_of(view);
     let polygons = geometry.polygons();
-    fill_runs(&mut work.scratch, polygons, view, area, &mut work.runs, steps)?;
+    fill_runs(
+        &mut work.scratch,
+        polygons,
+        view,
+        area,
+        &mut work.runs,
+        steps,
+    )?;
     cover_runs(cover, work.runs.as_slice());
     Ok(())
 }

@@ -113,7 +113,9 @@ fn paint_view<S: Stop, L: Ledger>(
     let layer = input.layer();
     match layer.contents() {
         LayerContents::Text(table) => {
-            paint_table(alloc, table, input, &mask, view, &mut work, stop, steps, pixels)?;
+            paint_table(
+                alloc, table, input, &mask, view, &mut work, stop, steps, pixels,
+            )?;
             Ok(())
         }
         LayerContents::Grid(cells) => {
@@ -158,7 +160,14 @@ fn paint_counted<S: Stop, L: Ledger>(
     let mut steps = Steps::<L>::of(blank);
     let view = piece.view;
     let mut pixels = RgbaList::with_room(alloc, u64::from(view.w) * u64::from(view.h))?;
-    paint_view(alloc, piece.input.value(), &view, stop, &mut steps, &mut pixels)?;
+    paint_view(
+        alloc,
+        piece.input.value(),
+        &view,
+        stop,
+        &mut steps,
+        &mut pixels,
+    )?;
     let input = piece.input.clone()?;
     let image = Image::of(view.w, view.h, pixels);
     Ok(PaintedLayer::of(input, view, image))

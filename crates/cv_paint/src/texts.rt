@@ -110,11 +110,7 @@ fn joined_text<'a>(
 }
 
 /// The text of a feature that a style's field reads, of its own layer or by the join.
-fn field_text<'a>(
-    input: &'a LayerInput,
-    field: &Field,
-    row: &'a FeatureRow,
-) -> Option<&'a Text>
+fn field_text<'a>(input: &'a LayerInput, field: &Field, row: &'a FeatureRow) -> Option<&'a Text>
     ensures { option_copied result ≡ field_text input.now.parts field.now row.now }
 {
     let own = input.layer();

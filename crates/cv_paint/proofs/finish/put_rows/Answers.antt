@@ -21,7 +21,7 @@ loop-j-preserved g c =
       c.loop-j.invariant.0,
       omega (arith, c.loop-j.invariant.1, c.poll.ensures.counts),
       c.in_ok-put_row.ensures
-      ∙ ap (λ (ps : List Rgba). ps ++ row_of c.args.view.now.w f c.loop-j.j) c.loop-j.invariant.2
-      ∙ append_assoc c.args.pixels.now (pixels_of c.args.view.now.w c.loop-j.j f) (row_of c.args.view.now.w f c.loop-j.j)
-      ∙ ap (λ (ps : List Rgba). c.args.pixels.now ++ ps) (sym (pixels_more c.args.view.now.w c.loop-j.j f)),
+          ∙ ap (λ (ps : List Rgba). ps ++ row_of c.args.view.now.w f c.loop-j.j) c.loop-j.invariant.2
+          ∙ append_assoc c.args.pixels.now (pixels_of c.args.view.now.w c.loop-j.j f) (row_of c.args.view.now.w f c.loop-j.j)
+          ∙ ap (λ (ps : List Rgba). c.args.pixels.now ++ ps) (sym (pixels_more c.args.view.now.w c.loop-j.j f)),
     )

@@ -13,8 +13,8 @@ use Rattle.cv_paint.proofs.layings.lay_lines.Goals as goal
 pub returns-clause-laid : goal.returns-clause-laid
 returns-clause-laid g c =
     let are = subst (λ (ps : List (List Position)).
-        AreRunsOf (λ i j. list_any (hits_line (half_side c.args.view.now c.side.result) (centre_of c.args.view.now i j)) ps) c.whole_of-area.result c.line_runs.new.into)
-        c.lines-lines.ensures c.in_ok-line_runs.ensures.runs in
+    AreRunsOf (λ i j. list_any (hits_line (half_side c.args.view.now c.side.result) (centre_of c.args.view.now i j)) ps) c.whole_of-area.result c.line_runs.new.into)
+    c.lines-lines.ensures c.in_ok-line_runs.ensures.runs in
     rw (← c.side.ensures.width)
     (lays_where c.args.view.now (λ p. hits_lines (half_side c.args.view.now c.side.result) p c.args.geometry.now)
     c.pen.inside.colour c.args.pen.colour _ _ _ _ _ (ap (λ (q : PenParts). q.colour) c.pen.view_is)

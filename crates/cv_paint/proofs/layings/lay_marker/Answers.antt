@@ -13,9 +13,9 @@ use Rattle.cv_paint.proofs.layings.lay_marker.Goals as goal
 pub returns-clause-laid : goal.returns-clause-laid
 returns-clause-laid g c =
     let are = subst (λ (ps : List Position).
-        AreRunsOf (λ i j. list_any (is_marked c.marker.inside.shape (half_side c.args.view.now c.side-side.result)
-        (centre_of c.args.view.now i j)) ps) c.whole_of-area.result c.marker_runs.new.into)
-        c.points-points.ensures c.in_ok-marker_runs.ensures.runs in
+    AreRunsOf (λ i j. list_any (is_marked c.marker.inside.shape (half_side c.args.view.now c.side-side.result)
+    (centre_of c.args.view.now i j)) ps) c.whole_of-area.result c.marker_runs.new.into)
+    c.points-points.ensures c.in_ok-marker_runs.ensures.runs in
     rw (c.in-Some.is, ← c.side-side.ensures.size, ← ap (λ (q : MarkerParts). q.shape) c.marker.view_is)
     (lays_where c.args.view.now
     (λ p. list_any (is_marked c.marker.inside.shape (half_side c.args.view.now c.side-side.result) p) c.args.geometry.now.points)

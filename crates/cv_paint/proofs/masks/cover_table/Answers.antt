@@ -10,5 +10,5 @@ loop-at-preserved g c = (
   omega (arith, c.loop-at.invariant.2, c.poll.ensures.counts),
   run_within c.rows-rows.result.now c.run_from-run.result.now c.loop-at.at c.loop-at.invariant.3 c.run_from-run.ensures.same,
   covers_run c.args.view.now _ c.rows-rows.result.now c.run_from-run.result.now c.loop-at.at _ _ _ c.run_from-run.ensures.same
-  c.loop-at.invariant.4 c.in_ok-cover_rows.ensures.covered,
+      c.loop-at.invariant.4 c.in_ok-cover_rows.ensures.covered,
 )

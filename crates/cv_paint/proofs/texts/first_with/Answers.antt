@@ -21,5 +21,5 @@ loop-at-preserved c =
     let none = subst P c.columns.ensures c.in-None.ensures in (
       run_within c.rows-rows.result.now c.run_from-run.result.now c.loop-at.at c.loop-at.invariant.0 c.run_from-run.ensures.same,
       found_behind p c.rows-rows.result.now c.run_from-run.result.now c.loop-at.at c.run_from-run.ensures.same (sym none)
-      ∙ c.loop-at.invariant.1,
+          ∙ c.loop-at.invariant.1,
     )
