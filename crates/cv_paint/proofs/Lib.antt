@@ -1,2 +1,6 @@
 -- What the proofs of this crate share.
 pub mod LayLemmas
+pub mod LayingLemmas
+pub mod MaskLemmas
+pub mod CellLemmas
+pub mod PaintedLemmas

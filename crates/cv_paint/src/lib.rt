@@ -5,11 +5,21 @@
 //! no handle.
 #![tactic(auto)]
 
+mod cells;
+mod error;
+mod features;
+mod finish;
 mod hits;
+mod layings;
+mod masks;
+mod painted;
 mod plain;
 mod sides;
 mod strokes;
+mod texts;
 
+pub use error::PaintError;
+pub use painted::paint;
 pub use plain::quick;
 
 #[cfg(test)]

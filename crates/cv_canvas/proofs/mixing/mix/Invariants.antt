@@ -1,0 +1,8 @@
+-- The pixels so far are laid over, and the others are as they were.
+use Rattle.std.proofs.Common.{◌≡◌, ◌++◌, map, take, drop}
+use Rattle.cv_model.specs.Colours.{over}
+use Rattle.cv_canvas.proofs.mixing.mix.Given as goal
+
+abbrev pub invariant-loop-pixel : goal.invariant-loop-pixel
+invariant-loop-pixel l =
+    l.pixels ≡ map (over l.colour) (take l.pixel-index l.fn.pixels) ++ drop l.pixel-index l.fn.pixels

@@ -1,0 +1,5 @@
+-- The definitions of what lies on a canvas.
+pub mod Canvas
+pub mod Mixing
+pub mod Pixels
+pub mod Cover

@@ -1,0 +1,31 @@
+//! What every canvas does.
+
+ghost use Rattle.std.specs.Prelude.{◌≡◌, ◌<◌, ℕ, length};
+ghost use Rattle.cv_model.specs.declared.colour.Rgba.{Rgba};
+ghost use Rattle.cv_model.specs.Rasters.{row_of};
+ghost use Rattle.cv_canvas.specs.Canvas.{CanvasFrame, LiesOn, IsInk, with_run};
+
+use cv_geom::Run;
+use cv_model::Rgba;
+
+/// A raster of pixels on which runs of colours are laid, each over what lies there.
+pub trait Canvas {
+    /// Its size in pixels, and the one colour that it takes, if it takes one alone.
+    ghost frame: { Self → CanvasFrame };
+
+    /// The pixel in a column and a row.
+    ghost at: { Self → ℕ → ℕ → Rgba };
+
+    /// Lays a colour on the pixels of a run.
+    fn lay(&mut self, run: Run, colour: Rgba)
+        requires run { LiesOn (frame self.old) run }
+        requires ink { IsInk (frame self.old).ink colour }
+        ensures frame { frame self.new ≡ frame self.old }
+        ensures laid { at self.new ≡ with_run colour (at self.old) run };
+
+    /// Puts the pixels of a row into a list in place of what it held.
+    fn row(&self, row: u32, into: &mut [Rgba])
+        requires row { row < (frame self.now).height }
+        requires length { length into.old ≡ (frame self.now).width }
+        ensures { into.new ≡ row_of (frame self.now).width (at self.now) row };
+}

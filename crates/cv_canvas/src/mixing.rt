@@ -1,0 +1,85 @@
+//! A colour laid over many pixels, by cases of them all: as fast as what lies there allows.
+
+ghost use Rattle.std.specs.Prelude.{◌≡◌, ◌≤◌, nat_eq, map};
+ghost use Rattle.std.specs.List.{list_all};
+ghost use Rattle.cv_number.specs.Rounding.{rnd};
+ghost use Rattle.cv_model.specs.Colours.{over};
+ghost use Rattle.cv_canvas.specs.Mixing.{byte_over, on_opaque, has_alpha};
+
+use cv_blend::over;
+use cv_model::Rgba;
+
+/// Lays a colour over each of these pixels.
+#[tactic(auto, using(crate::proofs::MixingLemmas::map_of_opaque, crate::proofs::MixingLemmas::map_clear, crate::proofs::MixingLemmas::map_on_opaque))]
+pub fn lay_on(pixels: &mut [Rgba], colour: Rgba)
+    ensures { pixels.new ≡ map (over colour) pixels.old }
+{
+    if colour.a == 255 {
+        pixels.fill(colour);
+    } else if colour.a > 0 && all_have(pixels, 0) {
+        pixels.fill(colour);
+    } else if all_have(pixels, 255) {
+        mix_opaque(pixels, colour);
+    } else {
+        mix(pixels, colour);
+    }
+}
+
+/// Whether all pixels have this alpha. It reads them all, so that many are read at a time.
+fn all_have(pixels: &[Rgba], alpha: u8) -> bool
+    ensures { result ≡ list_all (has_alpha alpha) pixels.now }
+{
+    let mut have = true;
+    for pixel in pixels {
+        have &= pixel.a == alpha;
+    }
+    have
+}
+
+/// Lays a colour over pixels of any alpha.
+fn mix(pixels: &mut [Rgba], colour: Rgba)
+    ensures { pixels.new ≡ map (over colour) pixels.old }
+{
+    for pixel in pixels.iter_mut() {
+        *pixel = over(colour, *pixel);
+    }
+}
+
+/// Lays a colour over pixels as if they were opaque: all four channels alike, in 16 bits.
+fn mix_opaque(pixels: &mut [Rgba], colour: Rgba)
+    ensures { pixels.new ≡ map (on_opaque colour) pixels.old }
+{
+    for pixel in pixels.iter_mut() {
+        *pixel = on_opaque(colour, *pixel);
+    }
+}
+
+/// A colour over an opaque one.
+fn on_opaque(source: Rgba, backdrop: Rgba) -> Rgba
+    ensures { result ≡ on_opaque source backdrop }
+{
+    Rgba {
+        r: byte_over(source.a, source.r, backdrop.r),
+        g: byte_over(source.a, source.g, backdrop.g),
+        b: byte_over(source.a, source.b, backdrop.b),
+        a: byte_over(source.a, 255, 255),
+    }
+}
+
+/// A channel of a colour of alpha `alpha` over that of an opaque one.
+fn byte_over(alpha: u8, source: u8, backdrop: u8) -> u8
+    ensures { result ≡ byte_over alpha source backdrop }
+{
+    let alpha = u16::from(alpha);
+    by_255(alpha * u16::from(source) + (255 - alpha) * u16::from(backdrop)) as u8
+}
+
+/// A number divided by 255, to the nearest.
+fn by_255(n: u16) -> u16
+    requires { n ≤ 65025 }
+    ensures value { result ≡ rnd n 255 }
+    ensures small { result ≤ 255 }
+{
+    let n = n + 128;
+    (n + (n >> 8)) >> 8
+}

@@ -1,0 +1,17 @@
+-- The strokes of the features so far are laid.
+use Rattle.std.proofs.Common.{◌≡◌, ◌≤◌, ◌-◌, take, length}
+use Rattle.std.specs.List.{flat_map}
+use Rattle.cv_model.specs.Pictures.{feature_strokes}
+use Rattle.cv_paint.specs.Layings.{Lays}
+use Rattle.cv_paint.proofs.features.lay_table.Given as goal
+
+abbrev pub invariant-loop-at : goal.invariant-loop-at
+invariant-loop-at g l =
+    (g.C.Canvas.frame l.canvas ≡ g.C.Canvas.frame l.fn.canvas)
+    × (g.S.Stop.yeses l.fn.stop ≤ g.S.Stop.yeses l.stop)
+    × (l.at ≤ length l.rows)
+    × Lays l.view (λ p. flat_map (feature_strokes l.input.parts l.view p) (take l.at l.rows))
+    (g.C.Canvas.at l.fn.canvas) (g.C.Canvas.at l.canvas)
+
+abbrev pub decreases-loop-at : goal.decreases-loop-at
+decreases-loop-at g l = length l.rows - l.at

@@ -1,0 +1,7 @@
+-- The pixels so far are kept where they are shown.
+use Rattle.std.proofs.Common.{◌≡◌, take}
+use Rattle.cv_paint.specs.Finish.{kept}
+use Rattle.cv_paint.proofs.finish.keep_shown.Given as goal
+
+abbrev pub invariant-loop-i : goal.invariant-loop-i
+invariant-loop-i l = l.row ≡ kept (take l.i l.is_shown) l.fn.row

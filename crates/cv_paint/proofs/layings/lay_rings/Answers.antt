@@ -1,0 +1,21 @@
+use Rattle.std.proofs.Common.{ap, refl, subst, List}
+use Rattle.std.specs.List.{list_any}
+use Rattle.cv_model.specs.Positions.{Position}
+use Rattle.cv_model.specs.Views.{centre_of}
+use Rattle.cv_model.specs.Polygons.{is_inside}
+use Rattle.cv_model.specs.Pens.{PenParts}
+use Rattle.cv_model.specs.Markers.{MarkerParts, is_marked}
+use Rattle.cv_model.specs.Pictures.{is_covered, half_side, hits_ring, hits_line, hits_rings, hits_lines}
+use Rattle.cv_geom.specs.Runs.{AreRunsOf}
+use Rattle.cv_paint.proofs.LayingLemmas.{lays_where, lays_both}
+use Rattle.cv_paint.proofs.layings.lay_rings.Goals as goal
+
+pub returns-clause-laid : goal.returns-clause-laid
+returns-clause-laid g c =
+    let are = subst (λ (ps : List (List (List Position))).
+    AreRunsOf (λ i j. list_any (list_any (hits_ring (half_side c.args.view.now c.side.result) (centre_of c.args.view.now i j))) ps) c.whole_of-area.result c.ring_runs.new.into)
+    c.polygons-polygons.ensures c.in_ok-ring_runs.ensures.runs in
+    rw (← c.side.ensures.width)
+    (lays_where c.args.view.now (λ p. hits_rings (half_side c.args.view.now c.side.result) p c.args.geometry.now)
+    c.pen.inside.colour c.args.pen.colour _ _ _ _ _ (ap (λ (q : PenParts). q.colour) c.pen.view_is)
+    c.whole_of-area.ensures.area c.as_slice.ensures are c.lay_runs.ensures.laid)

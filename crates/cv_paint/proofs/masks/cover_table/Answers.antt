@@ -1,0 +1,14 @@
+use Rattle.std.proofs.Common.{◌∙◌, arith}
+use Rattle.cv_paint.proofs.LayingLemmas.{run_within}
+use Rattle.cv_paint.proofs.MaskLemmas.{covers_run}
+use Rattle.cv_paint.proofs.masks.cover_table.Goals as goal
+
+pub loop-at-preserved : goal.loop-at-preserved
+loop-at-preserved g c = (
+  c.in_ok-cover_rows.ensures.width ∙ c.loop-at.invariant.0,
+  c.in_ok-cover_rows.ensures.height ∙ c.loop-at.invariant.1,
+  omega (arith, c.loop-at.invariant.2, c.poll.ensures.counts),
+  run_within c.rows-rows.result.now c.run_from-run.result.now c.loop-at.at c.loop-at.invariant.3 c.run_from-run.ensures.same,
+  covers_run c.args.view.now _ c.rows-rows.result.now c.run_from-run.result.now c.loop-at.at _ _ _ c.run_from-run.ensures.same
+      c.loop-at.invariant.4 c.in_ok-cover_rows.ensures.covered,
+)

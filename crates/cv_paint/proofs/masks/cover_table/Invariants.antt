@@ -1,0 +1,17 @@
+-- The features so far are covered.
+use Rattle.std.proofs.Common.{◌≡◌, ◌≤◌, ◌-◌, take, length}
+use Rattle.std.specs.List.{list_any}
+use Rattle.cv_model.specs.Pictures.{is_feature_at}
+use Rattle.cv_canvas.specs.Cover.{is_covered_in}
+use Rattle.cv_paint.specs.Masks.{Covers}
+use Rattle.cv_paint.proofs.masks.cover_table.Given as goal
+
+abbrev pub invariant-loop-at : goal.invariant-loop-at
+invariant-loop-at g l =
+    (l.cover.width ≡ l.fn.cover.width) × (l.cover.height ≡ l.fn.cover.height)
+    × (g.S.Stop.yeses l.fn.stop ≤ g.S.Stop.yeses l.stop)
+    × (l.at ≤ length l.rows)
+    × Covers l.view (λ p. list_any (is_feature_at p) (take l.at l.rows)) (is_covered_in l.fn.cover) (is_covered_in l.cover)
+
+abbrev pub decreases-loop-at : goal.decreases-loop-at
+decreases-loop-at g l = length l.rows - l.at
