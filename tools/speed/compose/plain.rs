@@ -1,5 +1,5 @@
-//! The same composition in plain Rust: runs of 1,024 pixels as planes of bytes, all layers of a run before the
-//! next, one loop a mode in 16 bits, dodge and burn from tables.
+//! The same composition in plain Rust: runs of 1,024 pixels as planes of bytes, all layers of a run before
+//! the next, one loop a mode in 16 bits, dodge and burn from tables.
 use std::time::Instant;
 
 const SIZE: usize = 1448 * 1448;
