@@ -9,3 +9,4 @@ pub mod PresentLemmas
 pub mod TaskLemmas
 pub mod LineLemmas
 pub mod ReadingLemmas
+pub mod TextLemmas

@@ -104,7 +104,7 @@ decimal_plain n small = digits_plain (decimal n) (decimal_is_IsNumeral n small).
 pub decimal_read : (n : ℕ) → IsLong n → number (decimal n) ≡ n
 decimal_read n small = (decimal_is_IsNumeral n small).1
 
-long : (n : ℕ) → IsShort n → IsLong n
+pub long : (n : ℕ) → IsShort n → IsLong n
 long n small = omega (arith, small)
 
 -- digits are neither a sign nor a comma
@@ -176,7 +176,7 @@ fate_read Stored = refl
 fate_read Kept = refl
 fate_read Dropped = refl
 
-reason_plain : (r : Reason) → IsPlain (reason_word r)
+pub reason_plain : (r : Reason) → IsPlain (reason_word r)
 reason_plain reason.UnknownLayer = refl
 reason_plain reason.UnknownFeature = refl
 reason_plain reason.WrongKind = refl
@@ -307,7 +307,7 @@ listed_read bits small = set_read 32 0 bits small ∙ omega arith
 
 -- ---- acts
 
-act_plain : (edits : ℕ) (a : Act) → IsLong edits → FitsAct a → AllByRecursion IsPlain (act_words edits a)
+pub act_plain : (edits : ℕ) (a : Act) → IsLong edits → FitsAct a → AllByRecursion IsPlain (act_words edits a)
 act_plain edits (act.Edit e v) n f = (refl, (decimal_plain edits n, (verdict_plain v, tt)))
 act_plain edits (act.View c view) n f =
     (refl, (decimal_plain c (long c f.0), (signed_plain view.lx2 f.1.left, (signed_plain view.ty2 f.1.top, (signed_plain view.u f.1.unit, (decimal_plain view.w (long view.w f.1.width), (decimal_plain view.h (long view.h f.1.height), tt)))))))
