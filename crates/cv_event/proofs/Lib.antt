@@ -8,3 +8,5 @@ pub mod CacheLemmas
 pub mod PresentLemmas
 pub mod TaskLemmas
 pub mod LineLemmas
+pub mod ReadingLemmas
+pub mod TextLemmas

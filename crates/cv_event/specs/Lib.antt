@@ -3,4 +3,6 @@ pub mod States
 pub mod Legality
 pub mod Histories
 pub mod Lines
+pub mod Readings
+pub mod TextLaws
 pub mod Laws

@@ -5,6 +5,8 @@ ghost use Rattle.cv_event.specs.Laws.{EndIsFirst, EndsStay, EndedJobsAreVoid, Ca
 ghost use Rattle.cv_event.specs.Laws.{SupersededJobsAreVoid, SlotsAreAsLooked, TouchedByEdits};
 ghost use Rattle.cv_event.specs.Laws.{ComposerIsOfCompose, CacheOfOneCanvas, CachedImagesArePresent};
 ghost use Rattle.cv_event.specs.Laws.{TaskIsOfTheFirst, TaskIsLeastSlot, ComposeIsDue};
+ghost use Rattle.cv_event.specs.TextLaws.{LineTellsEntry, LineTellsRefused, TextTellsJournal};
+ghost use Rattle.cv_event.specs.TextLaws.{TextAndEditsTellJournal};
 
 /// The present project is that of the opening behind all accepted edits.
 pub fn project_is_of_edits()
@@ -90,4 +92,24 @@ pub fn task_is_least_slot()
 /// A job without end whose slots are all ready has its composition as its task, once.
 pub fn compose_is_due()
     ensures { ComposeIsDue }
+{}
+
+/// The line of an entry in a journal's text tells the entry, but for its edit.
+pub fn line_tells_entry()
+    ensures { LineTellsEntry }
+{}
+
+/// The line of a refused command tells the command.
+pub fn line_tells_refused()
+    ensures { LineTellsRefused }
+{}
+
+/// A journal's text determines the entries but for their edits, the refused commands and the number of images.
+pub fn text_tells_journal()
+    ensures { TextTellsJournal }
+{}
+
+/// With the list of the edits, accepted or refused, it determines the journal.
+pub fn text_and_edits_tell_journal()
+    ensures { TextAndEditsTellJournal }
 {}

@@ -11,6 +11,8 @@ pub mod laws;
 mod lines;
 mod refused;
 mod slot;
+#[cfg(test)]
+mod tests;
 mod words;
 
 pub use entry::{Act, Entry, Fate, How};
