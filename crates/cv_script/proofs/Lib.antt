@@ -1,0 +1,4 @@
+-- The lemmas that several proofs share.
+pub mod KindLemmas
+pub mod StyleLemmas
+pub mod ScriptLemmas

@@ -1,0 +1,53 @@
+-- Scripts: their lines, and the commands that these say.
+use Rattle.std.specs.Prelude.{ℕ, ◌+◌, nat_lt, Bool, true, ◌==◌, if◌then◌else◌, List, [], ◌∷◌, ◌++◌, map}
+use Rattle.std.specs.Prelude.{Option, Some, None, Result, Ok, Err}
+use Rattle.std.specs.Str.{is_utf8}
+use Rattle.bstr.specs.Text.{lines_of, without_terminator}
+use Rattle.cv_reading.specs.Space.{is_space}
+use Rattle.cv_script.specs.declared.error.ScriptError.{ScriptError}
+use Rattle.cv_script.specs.declared.error.ScriptError.TheVariants.{BadLine}
+use Rattle.cv_script.specs.declared.script.Command.{Command}
+use Rattle.cv_script.specs.declared.script.Numbered.{Numbered}
+use Rattle.cv_script.specs.Answers.{◌>>=◌, tested}
+use Rattle.cv_script.specs.Words.{words_of}
+use Rattle.cv_script.specs.Table.{command_of}
+
+-- the lines of a script, each without its LF and a CR before that; the last needn't have one
+abbrev pub lines : List ℕ → List (List ℕ)
+lines bytes = map without_terminator (lines_of bytes)
+
+-- a line of white space, or whose first byte that isn't white is `#`, says nothing
+abbrev pub is_silent : List ℕ → Bool
+is_silent [] = true
+is_silent (b ∷ bs) = if is_space b then is_silent bs else b == 35
+
+-- the command of a line, where it has one; None where the line isn't in the grammar
+unfoldable pub line_of : List ℕ → Option (Option Command)
+line_of line = do
+  utf8 ← tested (is_utf8 line) line
+  if is_silent line then Some None else (words_of line >>= command_of >>= λ c. Some (Some c))
+
+-- a line before the answer to the others
+abbrev pub with_line : ℕ → Option (Option Command) → Result (List Numbered) ScriptError
+    → Result (List Numbered) ScriptError
+with_line n None others = Err (BadLine n)
+with_line n (Some None) others = others
+with_line n (Some (Some c)) (Ok commands) = Ok (record { line = n; command = c } ∷ commands)
+with_line n (Some (Some c)) (Err e) = Err e
+
+-- the commands of some lines, of which the first has the number n; or the first line that isn't in the
+-- grammar, or is behind the 100,000th
+abbrev pub commands_from : ℕ → List (List ℕ) → Result (List Numbered) ScriptError
+commands_from n [] = Ok []
+commands_from n (line ∷ rest) =
+    if nat_lt 100000 n then Err (BadLine n) else with_line n (line_of line) (commands_from (n + 1) rest)
+
+-- commands before those of an answer
+abbrev pub with_front : List Numbered → Result (List Numbered) ScriptError
+    → Result (List Numbered) ScriptError
+with_front front (Ok commands) = Ok (front ++ commands)
+with_front front (Err e) = Err e
+
+-- the script of some bytes, or its first bad line
+unfoldable pub script_of : List ℕ → Result (List Numbered) ScriptError
+script_of bytes = commands_from 1 (lines bytes)
