@@ -1,13 +1,13 @@
 -- The commands of lines, one line at a time.
-use Rattle.std.proofs.Common.{◌≡◌, ℕ, ◌+◌, ◌≤◌, ◌<◌, true, false, List, [], ◌∷◌, ◌++◌, Option, Some, None, Result}
-use Rattle.std.proofs.Common.{Ok, Err, refl, sym, ap, ◌∙◌, append_assoc, append-nil, arith}
-use Rattle.std.specs.Prelude.{nat_lt}
+use Rattle.std.proofs.Common.{◌≡◌, ℕ, ◌+◌, ◌≤◌, ◌<◌, Bool, true, false, if◌then◌else◌, List, [], ◌∷◌, ◌++◌, Option, Some, None, Result}
+use Rattle.std.proofs.Common.{Ok, Err, refl, sym, ap, ◌∙◌, append_assoc, append-nil, subst, arith}
+use Rattle.std.specs.Prelude.{nat_lt, ◌≢◌, IfOk}
 use Rattle.std.proofs.lemmas.Bool.Decides.{nat_tests}
 use Rattle.cv_script.specs.declared.error.ScriptError.{ScriptError}
-use Rattle.cv_script.specs.declared.error.ScriptError.TheVariants.{BadLine}
+use Rattle.cv_script.specs.declared.error.ScriptError.TheVariants.{BadLine, NoMemory}
 use Rattle.cv_script.specs.declared.script.Command.{Command}
 use Rattle.cv_script.specs.declared.script.Numbered.{Numbered}
-use Rattle.cv_script.specs.Scripts.{line_of, with_line, commands_from, with_front}
+use Rattle.cv_script.specs.Scripts.{line_of, lines, with_line, commands_from, script_of, with_front, AscendFrom}
 
 over : (n : ℕ) → 100000 < n → nat_lt 100000 n ≡ true
 over n h = grind (arith, nat_tests)
@@ -52,3 +52,41 @@ front_none (Err e) = refl
 -- and with nothing behind what is in front
 pub front_end : (front : List Numbered) → with_front front (Ok []) ≡ Ok front
 front_end front = ap Ok (append-nil front)
+
+low_of : (n : ℕ) → nat_lt 100000 n ≡ false → n ≤ 100000
+low_of n h = grind (arith, nat_tests)
+
+from_next : (n : ℕ) (cs : List Numbered) → AscendFrom (n + 1) cs → AscendFrom n cs
+from_next n [] h = tt
+from_next n (c ∷ cs) h = let above = h.0 in (omega (arith, above), h.1, h.2)
+
+ascend_step : (n : ℕ) (b : Bool) (x : Option (Option Command)) (r : Result (List Numbered) ScriptError)
+    (cs : List Numbered) → nat_lt 100000 n ≡ b
+    → ((ds : List Numbered) → r ≡ Ok ds → AscendFrom (n + 1) ds)
+    → (if b then Err (BadLine n) else with_line n x r) ≡ Ok cs → AscendFrom n cs
+ascend_step n true x r cs low others h = cc
+ascend_step n false None r cs low others h = cc
+ascend_step n false (Some None) r cs low others h = from_next n cs (others cs h)
+ascend_step n false (Some (Some c)) (Ok ds) cs low others h =
+    let same : (record { line = n; command = c } ∷ ds) ≡ cs = cc in
+    subst (AscendFrom n) same (omega arith, low_of n low, others ds refl)
+ascend_step n false (Some (Some c)) (Err e) cs low others h = cc
+
+-- the commands that lines say stand in ascending lines
+pub commands_ascend : (n : ℕ) (ls : List (List ℕ)) (cs : List Numbered) → commands_from n ls ≡ Ok cs
+    → AscendFrom n cs
+commands_ascend n [] cs h = let same : [] ≡ cs = cc in subst (AscendFrom n) same tt
+commands_ascend n (l ∷ ls) cs h =
+    ascend_step n (nat_lt 100000 n) (line_of l) (commands_from (n + 1) ls) cs refl
+    (λ ds k. commands_ascend (n + 1) ls ds k) h
+
+-- those of a script do
+pub script_ascends : (bytes : List ℕ) (cs : List Numbered) → script_of bytes ≡ Ok cs → AscendFrom 1 cs
+unfolding script_of
+script_ascends bytes cs h = commands_ascend 1 (lines bytes) cs h
+
+-- so an answer that is the script's has ascending lines
+pub read_ascends : (bytes : List ℕ) (r : Result (List Numbered) ScriptError)
+    → ((r ≢ Err NoMemory) → r ≡ script_of bytes) → IfOk r (AscendFrom 1)
+read_ascends bytes (Ok cs) h = script_ascends bytes cs (sym (h (λ e. cc)))
+read_ascends bytes (Err e) h = tt

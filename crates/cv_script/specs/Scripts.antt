@@ -1,5 +1,5 @@
 -- Scripts: their lines, and the commands that these say.
-use Rattle.std.specs.Prelude.{ℕ, ◌+◌, nat_lt, Bool, true, ◌==◌, if◌then◌else◌, List, [], ◌∷◌, ◌++◌, map}
+use Rattle.std.specs.Prelude.{ℕ, ◌+◌, ◌≤◌, nat_lt, Bool, true, ◌==◌, if◌then◌else◌, List, [], ◌∷◌, ◌++◌, map}
 use Rattle.std.specs.Prelude.{Option, Some, None, Result, Ok, Err}
 use Rattle.std.specs.Str.{is_utf8}
 use Rattle.bstr.specs.Text.{lines_of, without_terminator}
@@ -51,3 +51,8 @@ with_front front (Err e) = Err e
 -- the script of some bytes, or its first bad line
 unfoldable pub script_of : List ℕ → Result (List Numbered) ScriptError
 script_of bytes = commands_from 1 (lines bytes)
+
+-- the lines of commands ascend strictly, from one on to the 100,000th
+abbrev pub AscendFrom : ℕ → List Numbered → Type 0
+AscendFrom n [] = Unit {0}
+AscendFrom n (c ∷ rest) = (n ≤ c.line) × (c.line ≤ 100000) × AscendFrom (c.line + 1) rest

@@ -6,8 +6,8 @@
 //! Memory is taken for the words of a line and for the commands; no handle is needed.
 #![tactic(auto)]
 
-ghost use Rattle.std.specs.Prelude.{◌≡◌, ◌≢◌, ◌≤◌, ◌+◌, ◌∷◌, Err, Ok, List, ℕ, OnOk, IfErr};
-ghost use Rattle.cv_script.specs.Scripts.{script_of, commands_from, with_front};
+ghost use Rattle.std.specs.Prelude.{◌≡◌, ◌≢◌, ◌≤◌, ◌+◌, ◌∷◌, Err, Ok, List, ℕ, IfOk, OnOk, IfErr};
+ghost use Rattle.cv_script.specs.Scripts.{script_of, commands_from, with_front, AscendFrom};
 
 mod commands;
 mod edits;
@@ -38,8 +38,19 @@ const MOST_LINES: u32 = 100_000;
 /// is white, or whose first byte that isn't white is `#`, has no command. Any other is words between spaces
 /// and tabs: the command's name and its arguments. A word that begins with `"` ends at the next `"` that
 /// isn't doubled, and `""` in it is one `"`; no other word has a `"`. Source: this project's own.
-#[tactic(auto, unfolding(crate::specs::Scripts::script_of), using(crate::proofs::ScriptLemmas::front_none, crate::proofs::ScriptLemmas::front_end))]
+#[tactic(auto, using(crate::proofs::ScriptLemmas::read_ascends))]
 pub fn read(alloc: Global, bytes: &[u8]) -> Result<Script, ScriptError>
+    // The commands of the lines, or the first line that isn't in the grammar, or is behind the 100,000th.
+    ensures exact { (result ≢ Err ScriptError.NoMemory) → result ≡ script_of bytes.now }
+    // So the lines of the commands ascend strictly, from 1 to 100,000.
+    ensures ascend { IfOk result (AscendFrom 1) }
+{
+    read_lines(alloc, bytes)
+}
+
+/// The commands of all lines.
+#[tactic(auto, unfolding(crate::specs::Scripts::script_of), using(crate::proofs::ScriptLemmas::front_none, crate::proofs::ScriptLemmas::front_end))]
+fn read_lines(alloc: Global, bytes: &[u8]) -> Result<Script, ScriptError>
     ensures { (result ≢ Err ScriptError.NoMemory) → result ≡ script_of bytes.now }
 {
     let mut commands = Sequence::new(alloc);

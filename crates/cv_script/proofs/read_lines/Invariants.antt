@@ -1,7 +1,7 @@
 -- The commands so far, before those of the lines that are left, are those of all lines.
 use Rattle.std.proofs.Common.{◌≡◌, ◌≤◌}
 use Rattle.cv_script.specs.Scripts.{lines, commands_from, with_front}
-use Rattle.cv_script.proofs.read.Given as goal
+use Rattle.cv_script.proofs.read_lines.Given as goal
 
 abbrev pub invariant-loop-line : goal.invariant-loop-line
 invariant-loop-line l = record {
