@@ -1,6 +1,6 @@
 -- The commands of lines, one line at a time.
 use Rattle.std.proofs.Common.{◌≡◌, ℕ, ◌+◌, ◌≤◌, ◌<◌, Bool, true, false, if◌then◌else◌, List, [], ◌∷◌, ◌++◌, Option, Some, None, Result}
-use Rattle.std.proofs.Common.{Ok, Err, refl, sym, ap, ◌∙◌, append_assoc, append-nil, subst, arith}
+use Rattle.std.proofs.Common.{Ok, Err, refl, sym, ap, append_assoc, append-nil, subst, arith}
 use Rattle.std.specs.Prelude.{nat_lt, ◌≢◌, IfOk}
 use Rattle.std.proofs.lemmas.Bool.Decides.{nat_tests}
 use Rattle.cv_script.specs.declared.error.ScriptError.{ScriptError}
@@ -90,3 +90,8 @@ pub read_ascends : (bytes : List ℕ) (r : Result (List Numbered) ScriptError)
     → ((r ≢ Err NoMemory) → r ≡ script_of bytes) → IfOk r (AscendFrom 1)
 read_ascends bytes (Ok cs) h = script_ascends bytes cs (sym (h (λ e. cc)))
 read_ascends bytes (Err e) h = tt
+
+-- one line more, and none
+pub ruleset line_rules = (commands_over, commands_bad, commands_silent, commands_more)
+
+pub ruleset front_rules = (front_none, front_end)

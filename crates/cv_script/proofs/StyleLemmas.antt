@@ -1,7 +1,7 @@
 -- Stops that ascend, and stops that are read.
 use Rattle.std.proofs.Common.{◌≡◌, ℕ, Bool, true, false, ◌&&◌, List, [], ◌∷◌, ◌++◌, ℤ, refl, sym, ap, ◌∙◌}
 use Rattle.std.proofs.Common.{Option, Some, None, append_assoc, append-nil, arith}
-use Rattle.std.specs.Prelude.{◌<ℤ◌, ◌≤ℤ◌, int_lt, nat_le, nat_eq, ◌≤◌, length, All}
+use Rattle.std.specs.Prelude.{◌<ℤ◌, int_lt, nat_le, nat_eq, ◌≤◌, length, All}
 use Rattle.std.proofs.lemmas.Bool.Decides.{nat_tests}
 use Rattle.cv_model.specs.declared.ramp.RampKind.{RampKind}
 use Rattle.cv_model.specs.Positions.{IsCoordinate}

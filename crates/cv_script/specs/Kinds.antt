@@ -1,7 +1,7 @@
 -- Kinds of arguments: what a word says.
-use Rattle.std.specs.Prelude.{ℕ, ◌+◌, ◌-◌, ◌*◌, ◌==◌, Bool, not, ◌&&◌, nat_le, if◌then◌else◌, ℤ, pos, neg_ℤ}
+use Rattle.std.specs.Prelude.{ℕ, ◌+◌, ◌-◌, ◌*◌, ◌==◌, Bool, ◌&&◌, nat_le, if◌then◌else◌, ℤ, pos, neg_ℤ}
 use Rattle.std.specs.Prelude.{int_le, List, [], ◌∷◌, length, fold, bytes_eq, codes, slice_index, Option, Some}
-use Rattle.std.specs.Prelude.{None, option_map, option_and_then, find}
+use Rattle.std.specs.Prelude.{None, option_map, find}
 use Rattle.std.specs.Char.{is_ascii_digit}
 use Rattle.std.specs.List.{list_all}
 use Rattle.std.specs.Option.{option_or}

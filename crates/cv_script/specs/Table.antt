@@ -9,7 +9,6 @@ use Rattle.cv_model.specs.declared.layer.Join.{Join}
 use Rattle.cv_model.specs.declared.layer.LayerData.TheVariants as contents
 use Rattle.cv_model.specs.declared.layer.NewLayer.{NewLayer}
 use Rattle.cv_model.specs.declared.style.Style.TheVariants.{Single, Ramp}
-use Rattle.cv_model.specs.Geometries.{GeometryLists}
 use Rattle.cv_model.specs.Positions.{Rectangle}
 use Rattle.cv_model.specs.Scales.{ScaleBounds, all_scales}
 use Rattle.cv_script.specs.declared.script.Command.{Command}

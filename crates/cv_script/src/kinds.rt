@@ -7,7 +7,8 @@ ghost use Rattle.std.specs.List.{list_all};
 ghost use Rattle.std.specs.Str.{is_utf8};
 ghost use Rattle.cv_model.specs.Positions.{IsCoordinate};
 ghost use Rattle.cv_script.specs.Answers.{Answers};
-ghost use Rattle.cv_script.specs.Kinds.{digits_value, is_short, is_whole, whole_in, number, id, step, text, texts};
+ghost use Rattle.cv_script.specs.Kinds.{digits_value, is_short, is_whole, whole_in, number, id, step};
+ghost use Rattle.cv_script.specs.Kinds.{text, texts};
 ghost use Rattle.cv_script.specs.Kinds.{is_name, name, names, is_none_word, or_none, decimal_in, coordinate};
 ghost use Rattle.cv_script.specs.Kinds.{cell_of, cell, geometry, rgb, colour};
 

@@ -49,7 +49,7 @@ pub fn read(alloc: Global, bytes: &[u8]) -> Result<Script, ScriptError>
 }
 
 /// The commands of all lines.
-#[tactic(auto, unfolding(crate::specs::Scripts::script_of), using(crate::proofs::ScriptLemmas::front_none, crate::proofs::ScriptLemmas::front_end))]
+#[tactic(auto, unfolding(crate::specs::Scripts::script_of), using(crate::proofs::ScriptLemmas::front_rules))]
 fn read_lines(alloc: Global, bytes: &[u8]) -> Result<Script, ScriptError>
     ensures { (result ≢ Err ScriptError.NoMemory) → result ≡ script_of bytes.now }
 {
@@ -65,7 +65,7 @@ fn read_lines(alloc: Global, bytes: &[u8]) -> Result<Script, ScriptError>
 }
 
 /// Puts the command of a line behind the others, where it has one.
-#[tactic(auto, using(crate::proofs::ScriptLemmas::commands_over, crate::proofs::ScriptLemmas::commands_bad, crate::proofs::ScriptLemmas::commands_silent, crate::proofs::ScriptLemmas::commands_more))]
+#[tactic(auto, using(crate::proofs::ScriptLemmas::line_rules))]
 fn put_line(
     alloc: Global,
     commands: &mut Sequence<Numbered>,
@@ -98,6 +98,3 @@ fn put_line(
         Err(Refusal::NoMemory) => Err(ScriptError::NoMemory),
     }
 }
-
-#[cfg(test)]
-mod tests;

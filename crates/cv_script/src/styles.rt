@@ -4,7 +4,8 @@ ghost use Rattle.std.specs.Prelude.{◌≡◌, ◌≤◌, ◌&&◌, ◌<◌, ◌
 ghost use Rattle.std.specs.Prelude.{OnOk, is_none, bytes_eq, codes, None};
 ghost use Rattle.cv_model.specs.Positions.{IsCoordinate};
 ghost use Rattle.cv_script.specs.Answers.{Answers};
-ghost use Rattle.cv_script.specs.Styles.{Draws, no_parts, with_fill, with_pen, with_marker, with_part, symbol};
+ghost use Rattle.cv_script.specs.Styles.{Draws, no_parts, with_fill, with_pen, with_marker, with_part};
+ghost use Rattle.cv_script.specs.Styles.{symbol};
 ghost use Rattle.cv_script.specs.Styles.{stop, stops, with_others, ascends, are_stops, ramp};
 
 use crate::error::Refusal;

@@ -1,4 +1,3 @@
-use Rattle.std.proofs.Common.{arith}
 use Rattle.cv_script.proofs.KindLemmas.{no_features}
 use Rattle.cv_script.proofs.edits.empty_layer.Goals as goal
 

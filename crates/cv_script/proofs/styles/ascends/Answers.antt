@@ -1,4 +1,4 @@
-use Rattle.std.proofs.Common.{◌≡◌, ℕ, ◌+◌, pos, get_or, drop, w64, sym, ap, ◌∙◌, arith}
+use Rattle.std.proofs.Common.{◌+◌, pos, get_or, drop, w64, sym, ap, ◌∙◌, arith}
 use Rattle.std.proofs.lemmas.List.{drop_more}
 use mir.Val.{to_z}
 use Rattle.cv_model.specs.declared.ramp.Stop.{Stop}

@@ -1,5 +1,4 @@
-use Rattle.std.proofs.Common.{arith, sym, ◌∙◌}
-use Rattle.std.proofs.lemmas.Bool.Decides.{nat_tests}
+use Rattle.std.proofs.Common.{sym, ◌∙◌}
 use Rattle.cv_script.proofs.StyleLemmas.{stops_all}
 use Rattle.cv_script.proofs.styles.stops.Goals as goal
 
