@@ -7,7 +7,7 @@ use Rattle.cv_script.specs.declared.error.ScriptError.{ScriptError}
 use Rattle.cv_script.specs.declared.error.ScriptError.TheVariants.{BadLine, NoMemory}
 use Rattle.cv_script.specs.declared.script.Command.{Command}
 use Rattle.cv_script.specs.declared.script.Numbered.{Numbered}
-use Rattle.cv_script.specs.Scripts.{line_of, lines, with_line, commands_from, script_of, with_front, AscendFrom}
+use Rattle.cv_script.specs.Scripts.{without_mark, line_of, lines, with_line, commands_from, script_of, with_front, AscendFrom}
 
 over : (n : ℕ) → 100000 < n → nat_lt 100000 n ≡ true
 over n h = grind (arith, nat_tests)
@@ -83,7 +83,7 @@ commands_ascend n (l ∷ ls) cs h =
 -- those of a script do
 pub script_ascends : (bytes : List ℕ) (cs : List Numbered) → script_of bytes ≡ Ok cs → AscendFrom 1 cs
 unfolding script_of
-script_ascends bytes cs h = commands_ascend 1 (lines bytes) cs h
+script_ascends bytes cs h = commands_ascend 1 (lines (without_mark bytes)) cs h
 
 -- so an answer that is the script's has ascending lines
 pub read_ascends : (bytes : List ℕ) (r : Result (List Numbered) ScriptError)

@@ -1,6 +1,7 @@
 -- Scripts: their lines, and the commands that these say.
-use Rattle.std.specs.Prelude.{ℕ, ◌+◌, ◌≤◌, nat_lt, Bool, true, ◌==◌, if◌then◌else◌, List, [], ◌∷◌, ◌++◌, map}
-use Rattle.std.specs.Prelude.{Option, Some, None, Result, Ok, Err}
+use Rattle.std.specs.Prelude.{ℕ, ◌+◌, ◌≤◌, nat_lt, nat_eq, Bool, true, ◌==◌, if◌then◌else◌, List, [], ◌∷◌}
+use Rattle.std.specs.Prelude.{◌++◌, map, drop, Option, Some, None, Result, Ok, Err}
+use Rattle.std.specs.List.{starts_with}
 use Rattle.std.specs.Str.{is_utf8}
 use Rattle.bstr.specs.Text.{lines_of, without_terminator}
 use Rattle.cv_reading.specs.Space.{is_space}
@@ -11,6 +12,14 @@ use Rattle.cv_script.specs.declared.script.Numbered.{Numbered}
 use Rattle.cv_script.specs.Answers.{◌>>=◌, tested}
 use Rattle.cv_script.specs.Words.{words_of}
 use Rattle.cv_script.specs.Table.{command_of}
+
+-- the byte order mark of UTF-8
+abbrev pub mark : List ℕ
+mark = 239 ∷ 187 ∷ 191 ∷ []
+
+-- the bytes without a byte order mark in front
+abbrev pub without_mark : List ℕ → List ℕ
+without_mark bytes = if starts_with nat_eq bytes mark then drop 3 bytes else bytes
 
 -- the lines of a script, each without its LF and a CR before that; the last needn't have one
 abbrev pub lines : List ℕ → List (List ℕ)
@@ -48,9 +57,9 @@ abbrev pub with_front : List Numbered → Result (List Numbered) ScriptError
 with_front front (Ok commands) = Ok (front ++ commands)
 with_front front (Err e) = Err e
 
--- the script of some bytes, or its first bad line
+-- the script of some bytes, or its first bad line; a byte order mark is no part of the first line
 unfoldable pub script_of : List ℕ → Result (List Numbered) ScriptError
-script_of bytes = commands_from 1 (lines bytes)
+script_of bytes = commands_from 1 (lines (without_mark bytes))
 
 -- the lines of commands ascend strictly, from one on to the 100,000th
 abbrev pub AscendFrom : ℕ → List Numbered → Type 0

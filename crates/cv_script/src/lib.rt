@@ -7,7 +7,8 @@
 #![tactic(auto)]
 
 ghost use Rattle.std.specs.Prelude.{◌≡◌, ◌≢◌, ◌≤◌, ◌+◌, ◌∷◌, Err, Ok, List, ℕ, IfOk, OnOk, IfErr};
-ghost use Rattle.cv_script.specs.Scripts.{script_of, commands_from, with_front, AscendFrom};
+ghost use Rattle.cv_script.specs.Scripts.{script_of, without_mark, lines, commands_from, with_front};
+ghost use Rattle.cv_script.specs.Scripts.{AscendFrom};
 
 mod commands;
 mod edits;
@@ -25,7 +26,7 @@ use bstr::ByteSlice;
 use cv_model::Sequence;
 use error::Refusal;
 pub use error::ScriptError;
-use line::read_line;
+use line::{read_line, without_mark};
 pub use script::{Command, Numbered, Script};
 use std::alloc::Global;
 
@@ -34,24 +35,29 @@ const MOST_LINES: u32 = 100_000;
 
 /// The commands of a script with their lines, or the first line that is refused.
 ///
-/// A script is lines of UTF-8 that end at LF, before which a CR is dropped; the last needn't end. A line that
-/// is white, or whose first byte that isn't white is `#`, has no command. Any other is words between spaces
-/// and tabs: the command's name and its arguments. A word that begins with `"` ends at the next `"` that
-/// isn't doubled, and `""` in it is one `"`; no other word has a `"`. Source: this project's own.
-#[tactic(auto, using(crate::proofs::ScriptLemmas::read_ascends))]
+/// A script is lines of UTF-8 that end at LF, before which a CR is dropped; the last needn't end. A byte order
+/// mark in front of the first is dropped too. A line that is white, or whose first byte that isn't white is
+/// `#`, has no command. Any other is words between spaces and tabs: the command's name and its arguments. A
+/// word that begins with `"` ends at the next `"` that isn't doubled, and `""` in it is one `"`; no other word
+/// has a `"`. Source: this project's own.
+#[tactic(
+    auto,
+    unfolding(crate::specs::Scripts::script_of),
+    using(crate::proofs::ScriptLemmas::read_ascends)
+)]
 pub fn read(alloc: Global, bytes: &[u8]) -> Result<Script, ScriptError>
     // The commands of the lines, or the first line that isn't in the grammar, or is behind the 100,000th.
     ensures exact { (result ≢ Err ScriptError.NoMemory) → result ≡ script_of bytes.now }
     // So the lines of the commands ascend strictly, from 1 to 100,000.
     ensures ascend { IfOk result (AscendFrom 1) }
 {
-    read_lines(alloc, bytes)
+    read_lines(alloc, without_mark(bytes))
 }
 
 /// The commands of all lines.
-#[tactic(auto, unfolding(crate::specs::Scripts::script_of), using(crate::proofs::ScriptLemmas::front_rules))]
+#[tactic(auto, using(crate::proofs::ScriptLemmas::front_rules))]
 fn read_lines(alloc: Global, bytes: &[u8]) -> Result<Script, ScriptError>
-    ensures { (result ≢ Err ScriptError.NoMemory) → result ≡ script_of bytes.now }
+    ensures { (result ≢ Err ScriptError.NoMemory) → result ≡ commands_from 1 (lines bytes.now) }
 {
     let mut commands = Sequence::new(alloc);
     let mut number = 1;

@@ -1,9 +1,9 @@
-//! One line of a script.
+//! The lines of a script.
 
 ghost use Rattle.std.specs.Prelude.{◌≡◌};
 ghost use Rattle.std.specs.Str.{is_utf8};
 ghost use Rattle.cv_script.specs.Answers.{Answers};
-ghost use Rattle.cv_script.specs.Scripts.{is_silent, line_of};
+ghost use Rattle.cv_script.specs.Scripts.{without_mark, is_silent, line_of};
 
 use crate::commands::command;
 use crate::error::Refusal;
@@ -11,6 +11,17 @@ use crate::script::Command;
 use crate::words::words;
 use cv_reading::is_space;
 use std::alloc::Global;
+
+/// The bytes behind a byte order mark, where one stands in front.
+pub fn without_mark(bytes: &[u8]) -> &[u8]
+    ensures { result.now ≡ without_mark bytes.now }
+{
+    if bytes.starts_with(b"\xef\xbb\xbf") {
+        bytes.split_at(3).1
+    } else {
+        bytes
+    }
+}
 
 /// Whether a line is white, or a comment.
 fn is_silent(line: &[u8]) -> bool
