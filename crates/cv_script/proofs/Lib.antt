@@ -2,3 +2,4 @@
 pub mod KindLemmas
 pub mod StyleLemmas
 pub mod ScriptLemmas
+pub mod CommandLemmas

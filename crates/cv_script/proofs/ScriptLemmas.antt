@@ -1,13 +1,13 @@
 -- The commands of lines, one line at a time.
 use Rattle.std.proofs.Common.{◌≡◌, ℕ, ◌+◌, ◌≤◌, ◌<◌, Bool, true, false, if◌then◌else◌, List, [], ◌∷◌, ◌++◌, Option, Some, None, Result}
-use Rattle.std.proofs.Common.{Ok, Err, refl, sym, ap, append_assoc, append-nil, subst, arith}
-use Rattle.std.specs.Prelude.{nat_lt, ◌≢◌, IfOk}
+use Rattle.std.proofs.Common.{Ok, Err, refl, ap, append_assoc, append-nil, subst, arith}
+use Rattle.std.specs.Prelude.{nat_lt}
 use Rattle.std.proofs.lemmas.Bool.Decides.{nat_tests}
 use Rattle.cv_script.specs.declared.error.ScriptError.{ScriptError}
-use Rattle.cv_script.specs.declared.error.ScriptError.TheVariants.{BadLine, NoMemory}
+use Rattle.cv_script.specs.declared.error.ScriptError.TheVariants.{BadLine}
 use Rattle.cv_script.specs.declared.script.Command.{Command}
 use Rattle.cv_script.specs.declared.script.Numbered.{Numbered}
-use Rattle.cv_script.specs.Scripts.{without_mark, line_of, lines, with_line, commands_from, script_of, with_front, AscendFrom}
+use Rattle.cv_script.specs.Scripts.{line_of, with_line, commands_from, with_front, AscendFrom}
 
 over : (n : ℕ) → 100000 < n → nat_lt 100000 n ≡ true
 over n h = grind (arith, nat_tests)
@@ -79,17 +79,6 @@ commands_ascend n [] cs h = let same : [] ≡ cs = cc in subst (AscendFrom n) sa
 commands_ascend n (l ∷ ls) cs h =
     ascend_step n (nat_lt 100000 n) (line_of l) (commands_from (n + 1) ls) cs refl
     (λ ds k. commands_ascend (n + 1) ls ds k) h
-
--- those of a script do
-pub script_ascends : (bytes : List ℕ) (cs : List Numbered) → script_of bytes ≡ Ok cs → AscendFrom 1 cs
-unfolding script_of
-script_ascends bytes cs h = commands_ascend 1 (lines (without_mark bytes)) cs h
-
--- so an answer that is the script's has ascending lines
-pub read_ascends : (bytes : List ℕ) (r : Result (List Numbered) ScriptError)
-    → ((r ≢ Err NoMemory) → r ≡ script_of bytes) → IfOk r (AscendFrom 1)
-read_ascends bytes (Ok cs) h = script_ascends bytes cs (sym (h (λ e. cc)))
-read_ascends bytes (Err e) h = tt
 
 -- one line more, and none
 pub ruleset line_rules = (commands_over, commands_bad, commands_silent, commands_more)

@@ -12,7 +12,7 @@ use Rattle.cv_script.specs.Styles.{ascends, ascends_from, are_stops, stop, stops
 use Rattle.cv_script.specs.Answers.{◌>>=◌}
 
 -- both of two tests that hold together
-both : (a b : Bool) → (a && b) ≡ true → (a ≡ true) × (b ≡ true)
+pub both : (a b : Bool) → (a && b) ≡ true → (a ≡ true) × (b ≡ true)
 both true true h = (refl, refl)
 both true false h = cc
 both false b h = cc

@@ -1,13 +1,14 @@
 -- Scripts: their lines, and the commands that these say.
 use Rattle.std.specs.Prelude.{ℕ, ◌+◌, ◌≤◌, nat_lt, nat_eq, Bool, true, ◌==◌, if◌then◌else◌, List, [], ◌∷◌}
-use Rattle.std.specs.Prelude.{◌++◌, map, drop, Option, Some, None, Result, Ok, Err}
-use Rattle.std.specs.List.{starts_with}
+use Rattle.std.specs.Prelude.{◌++◌, map, drop, length, Option, Some, None, Result, Ok, Err}
+use Rattle.std.specs.List.{starts_with, All}
 use Rattle.std.specs.Str.{is_utf8}
 use Rattle.bstr.specs.Text.{lines_of, without_terminator}
 use Rattle.cv_reading.specs.Space.{is_space}
 use Rattle.cv_script.specs.declared.error.ScriptError.{ScriptError}
 use Rattle.cv_script.specs.declared.error.ScriptError.TheVariants.{BadLine}
 use Rattle.cv_script.specs.declared.script.Command.{Command}
+use Rattle.cv_script.specs.declared.script.Command.TheVariants as command
 use Rattle.cv_script.specs.declared.script.Numbered.{Numbered}
 use Rattle.cv_script.specs.Answers.{◌>>=◌, tested}
 use Rattle.cv_script.specs.Words.{words_of}
@@ -65,3 +66,18 @@ script_of bytes = commands_from 1 (lines (without_mark bytes))
 abbrev pub AscendFrom : ℕ → List Numbered → Type 0
 AscendFrom n [] = Unit {0}
 AscendFrom n (c ∷ rest) = (n ≤ c.line) × (c.line ≤ 100000) × AscendFrom (c.line + 1) rest
+
+-- a number of a fraction
+abbrev pub IsFactor : ℕ → Type 0
+IsFactor n = (1 ≤ n) × (n ≤ 1000)
+
+-- the numbers of a zoom are in range
+abbrev pub HasFactors : Command → Type 0
+HasFactors (command.Zoom canvas num den) = IsFactor num × IsFactor den
+HasFactors _ = Unit {0}
+
+-- what the commands of a script keep
+pub record IsScript (commands : List Numbered) : Type 0 where
+  pub few : length commands ≤ 100000
+  pub ascend : AscendFrom 1 commands
+  pub factors : All (λ c. HasFactors c.command) commands

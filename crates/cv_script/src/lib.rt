@@ -8,7 +8,7 @@
 
 ghost use Rattle.std.specs.Prelude.{◌≡◌, ◌≢◌, ◌≤◌, ◌+◌, ◌∷◌, Err, Ok, List, ℕ, IfOk, OnOk, IfErr};
 ghost use Rattle.cv_script.specs.Scripts.{script_of, without_mark, lines, commands_from, with_front};
-ghost use Rattle.cv_script.specs.Scripts.{AscendFrom};
+ghost use Rattle.cv_script.specs.Scripts.{IsScript};
 
 mod commands;
 mod edits;
@@ -43,13 +43,13 @@ const MOST_LINES: u32 = 100_000;
 #[tactic(
     auto,
     unfolding(crate::specs::Scripts::script_of),
-    using(crate::proofs::ScriptLemmas::read_ascends)
+    using(crate::proofs::CommandLemmas::read_kept)
 )]
 pub fn read(alloc: Global, bytes: &[u8]) -> Result<Script, ScriptError>
     // The commands of the lines, or the first line that isn't in the grammar, or is behind the 100,000th.
     ensures exact { (result ≢ Err ScriptError.NoMemory) → result ≡ script_of bytes.now }
-    // So the lines of the commands ascend strictly, from 1 to 100,000.
-    ensures ascend { IfOk result (AscendFrom 1) }
+    // So there are at most 100,000 commands, in lines that ascend strictly, with zooms in range.
+    ensures kept { IfOk result IsScript }
 {
     read_lines(alloc, without_mark(bytes))
 }
