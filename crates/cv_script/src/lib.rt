@@ -40,11 +40,7 @@ const MOST_LINES: u32 = 100_000;
 /// `#`, has no command. Any other is words between spaces and tabs: the command's name and its arguments. A
 /// word that begins with `"` ends at the next `"` that isn't doubled, and `""` in it is one `"`; no other word
 /// has a `"`. Source: this project's own.
-#[tactic(
-    auto,
-    unfolding(crate::specs::Scripts::script_of),
-    using(crate::proofs::CommandLemmas::read_kept)
-)]
+#[tactic(auto, unfolding(crate::specs::Scripts::script_of), using(crate::proofs::CommandLemmas::read_kept))]
 pub fn read(alloc: Global, bytes: &[u8]) -> Result<Script, ScriptError>
     // The commands of the lines, or the first line that isn't in the grammar, or is behind the 100,000th.
     ensures exact { (result ≢ Err ScriptError.NoMemory) → result ≡ script_of bytes.now }
@@ -104,3 +100,6 @@ fn put_line(
         Err(Refusal::NoMemory) => Err(ScriptError::NoMemory),
     }
 }
+
+#[cfg(test)]
+mod tests;
