@@ -1,4 +1,4 @@
--- The project that `quick` paints.
+-- What the painter's calls cite, in reading order.
 pub mod Plain
 pub mod Layings
 pub mod Finish

@@ -1,8 +1,9 @@
-//! The painter: from features and a symbol to the pixels of a picture.
+//! The painter: from layers to their images, and from features and a symbol to a picture.
 //!
-//! Contract: the picture is that of the definitions, at every pixel.
-//! Definitions: `Pictures` of `cv_model`; `Plain`, the project of one layer. Takes memory for the pixels;
-//! no handle.
+//! Contract: an image is that of the definitions, at every pixel, and so is a picture; the painting of a
+//! piece is given up only where its stop said yes.
+//! Definitions: `Pictures`, `Paintings` and `Texts` of `cv_model`; `Plain`, the project of one layer. Takes
+//! memory for pixels and runs; no handle.
 #![tactic(auto)]
 
 mod cells;
@@ -22,5 +23,7 @@ pub use error::PaintError;
 pub use painted::paint;
 pub use plain::quick;
 
+#[cfg(test)]
+mod layer_tests;
 #[cfg(test)]
 mod tests;

@@ -1,22 +1,24 @@
 //! Worked pictures. A pixel is a map unit each way, and the bottom left one lies at the origin.
 ghost use Rattle.cv_model.specs.Positions.{IsCoordinate};
 
+use crate::layer_tests::{marks_of, text_layer};
 use crate::quick;
 use cv_geom::view_of;
+use cv_layer::LayerInput;
 use cv_model::{
     Extent, Feature, FeatureList, Geometry, Marker, NoMemory, Pen, Point, Rgb, Rgba, Sequence,
-    Shape, Symbol, Values, View,
+    Shape, Style, Symbol, Values, View,
 };
 use std::alloc::Global;
 use std::test::Fail;
 
 /// Points by their coordinates in quarters of a map unit.
-type Path<'a> = &'a [(i32, i32)];
+pub type Path<'a> = &'a [(i32, i32)];
 
 /// The ring round a whole picture of four by four.
-const WHOLE: Path<'static> = &[(0, 0), (16, 0), (16, 16), (0, 16), (0, 0)];
+pub const WHOLE: Path<'static> = &[(0, 0), (16, 0), (16, 16), (0, 16), (0, 0)];
 
-const RED: Rgba = Rgba {
+pub const RED: Rgba = Rgba {
     r: 255,
     g: 0,
     b: 0,
@@ -30,7 +32,7 @@ const HALF_RED: Rgba = Rgba {
     a: 128,
 };
 
-const GREEN: Rgba = Rgba {
+pub const GREEN: Rgba = Rgba {
     r: 0,
     g: 255,
     b: 0,
@@ -45,7 +47,7 @@ const BLUE: Rgba = Rgba {
 };
 
 /// A symbol of a fill alone.
-fn fill(colour: Rgba) -> Symbol {
+pub fn fill(colour: Rgba) -> Symbol {
     Symbol {
         fill: Some(colour),
         pen: None,
@@ -119,7 +121,7 @@ fn paths(alloc: Global, given: &[Path]) -> Result<Sequence<Sequence<Point>>, NoM
 }
 
 /// A geometry of points, of lines, and of a polygon with these rings.
-fn geometry(
+pub fn geometry(
     alloc: Global,
     alone: Path,
     lines: &[Path],
@@ -151,7 +153,7 @@ fn features(
 }
 
 /// The view of so many map units, a pixel each.
-fn units(across: u16, upwards: u16) -> Result<View, Fail> {
+pub fn units(across: u16, upwards: u16) -> Result<View, Fail> {
     let extent = Extent {
         xmin: 0,
         ymin: 0,
@@ -162,7 +164,7 @@ fn units(across: u16, upwards: u16) -> Result<View, Fail> {
 }
 
 /// What stands for a colour: `h` for the half red laid once on white, `t` for twice.
-fn mark(colour: Rgb) -> char {
+pub fn mark(colour: Rgb) -> char {
     match (colour.r, colour.g, colour.b) {
         (255, 255, 255) => '.',
         (255, 0, 0) => 'r',
@@ -170,11 +172,12 @@ fn mark(colour: Rgb) -> char {
         (0, 0, 255) => 'b',
         (255, 127, 127) => 'h',
         (255, 63, 63) => 't',
+        (200, 200, 200) => 'c',
         _ => '?',
     }
 }
 
-/// The picture's marks, row by row from the top.
+/// The marks of a layer's pixels, row by row from the top. Both painters have them alike.
 fn painted(
     alloc: Global,
     first: Option<Geometry>,
@@ -182,12 +185,19 @@ fn painted(
     symbol: &Symbol,
     view: &View,
 ) -> Result<String, Fail> {
-    let picture = quick(alloc, &features(alloc, first, second)?, symbol, view)?;
-    let mut marks = String::new(alloc);
+    let list = features(alloc, first, second)?;
+    let picture = quick(alloc, &list, symbol, view)?;
+    let mut plain = String::new(alloc);
     for pixel in picture.pixels().as_slice() {
-        marks.push(mark(*pixel))?;
+        plain.push(mark(*pixel))?;
     }
-    Ok(marks)
+    let layer = text_layer(alloc, list, Style::Single(*symbol), None, None)?;
+    let marks = marks_of(alloc, LayerInput::of(layer, None, None), *view)?;
+    if marks.as_str() == plain.as_str() {
+        Ok(marks)
+    } else {
+        Err(Fail::new("the painters differ"))
+    }
 }
 
 #[test]
