@@ -6,3 +6,4 @@ pub mod Lines
 pub mod Readings
 pub mod TextLaws
 pub mod Laws
+pub mod ShownLaws
