@@ -11,3 +11,4 @@ pub mod LineLemmas
 pub mod ReadingLemmas
 pub mod TextLemmas
 pub mod ShownLemmas
+pub mod PanLemmas

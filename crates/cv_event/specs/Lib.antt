@@ -7,3 +7,4 @@ pub mod Readings
 pub mod TextLaws
 pub mod Laws
 pub mod ShownLaws
+pub mod ViewLaws

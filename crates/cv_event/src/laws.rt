@@ -7,6 +7,7 @@ ghost use Rattle.cv_event.specs.Laws.{ComposerIsOfCompose, CacheOfOneCanvas, Cac
 ghost use Rattle.cv_event.specs.Laws.{TaskIsOfTheFirst, TaskIsLeastSlot, ComposeIsDue};
 ghost use Rattle.cv_event.specs.TextLaws.{LineTellsEntry, LineTellsRefused, TextTellsJournal};
 ghost use Rattle.cv_event.specs.TextLaws.{TextAndEditsTellJournal};
+ghost use Rattle.cv_event.specs.ViewLaws.{CachedViewsArePans};
 ghost use Rattle.cv_event.specs.ShownLaws.{PreviewListsReady, MissedByLooker, PublishedIsLastFinished};
 
 /// The present project is that of the opening behind all accepted edits.
@@ -129,4 +130,9 @@ pub fn missed_by_looker()
 /// A canvas's published picture is of what the last job took that was finished on it.
 pub fn published_is_last_finished()
     ensures { PublishedIsLastFinished }
+{}
+
+/// All images in a cache are at pans of the canvas's present view.
+pub fn cached_views_are_pans()
+    ensures { CachedViewsArePans }
 {}
