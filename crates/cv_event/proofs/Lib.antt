@@ -10,3 +10,5 @@ pub mod TaskLemmas
 pub mod LineLemmas
 pub mod ReadingLemmas
 pub mod TextLemmas
+pub mod ShownLemmas
+pub mod PanLemmas

@@ -44,7 +44,7 @@ all_map : {A B : Type 0} (P : A → Type 0) (Q : B → Type 0) (f : A → B) →
 all_map P Q f keeps [] h = tt
 all_map P Q f keeps (x ∷ xs) h = (keeps x h.0, all_map P Q f keeps xs h.1)
 
-all_same : {A : Type 0} (P Q : A → Type 0) → ((x : A) → P x → Q x) → (xs : List A) → AllByRecursion P xs →
+pub all_same : {A : Type 0} (P Q : A → Type 0) → ((x : A) → P x → Q x) → (xs : List A) → AllByRecursion P xs →
     AllByRecursion Q xs
 all_same P Q keeps [] h = tt
 all_same P Q keeps (x ∷ xs) h = (keeps x h.0, all_same P Q keeps xs h.1)
@@ -66,7 +66,7 @@ all_at P [] i x h is = absurd cc
 all_at P (y ∷ ys) zero x h is = let same : y ≡ x = cc in subst P same h.0
 all_at P (y ∷ ys) (suc i) x h is = all_at P ys i x h.1 is
 
-all_filter : {A : Type 0} (P Q : A → Type 0) (test : A → Bool) → ((x : A) → test x ≡ true → P x → Q x) → (xs : List
+pub all_filter : {A : Type 0} (P Q : A → Type 0) (test : A → Bool) → ((x : A) → test x ≡ true → P x → Q x) → (xs : List
     A) → AllByRecursion P xs → AllByRecursion Q (filter test xs)
 all_filter P Q test keeps [] h = tt
 all_filter {A} P Q test keeps (x ∷ xs) h = by (test x) refl (all_filter P Q test keeps xs h.1)
@@ -354,12 +354,12 @@ behind_edit s who c e None allowed h = all_filter (IsPainted s) (IsPainted (did 
     s.project e) (λ image left was. painted_one s who (act.Edit e None) image allowed left was) (cached s c) h
 behind_edit s who c e (Some error) allowed h = h
 
-behind_looked : (P : Cached → Type 0) (s : State) (c j at : ℕ) (hit : Bool) → AllByRecursion P (cached s c) →
+pub behind_looked : (P : Cached → Type 0) (s : State) (c j at : ℕ) (hit : Bool) → AllByRecursion P (cached s c) →
     AllByRecursion P (cache_behind s c (act.Look j at hit) (cached s c))
 behind_looked P s c j at true h = fronted P (image_on s c j at) (cached s c) h
 behind_looked P s c j at false h = h
 
-behind_delivered : (P : Cached → Type 0) (s : State) (c j at : ℕ) (fate : Fate) → (fate ≡ Stored → (image : Cached) →
+pub behind_delivered : (P : Cached → Type 0) (s : State) (c j at : ℕ) (fate : Fate) → (fate ≡ Stored → (image : Cached) →
     image_on s c j at ≡ Some image → P image)
     → AllByRecursion P (cached s c) → AllByRecursion P (cache_behind s c (act.Deliver j at fate) (cached s c))
 behind_delivered P s c j at Stored new h = put_in P (capacity_on s c) (image_on s c j at) (cached s c) (new refl) h
@@ -405,7 +405,7 @@ painted_more s (entry ∷ rest) c legal fresh h =
     (painted_behind s entry.caller c entry.act legal.0 fresh h))
 
 -- a cache is empty at first
-empty_at : (P : Cached → Type 0) (specs : List CanvasSpec) (c : ℕ) → AllByRecursion P (option_map_or (λ (k : Canvas).
+pub empty_at : (P : Cached → Type 0) (specs : List CanvasSpec) (c : ℕ) → AllByRecursion P (option_map_or (λ (k : Canvas).
     k.cache) (slice_get (map new_canvas specs) c) [])
 empty_at P [] c = tt
 empty_at P (spec ∷ specs) zero = tt

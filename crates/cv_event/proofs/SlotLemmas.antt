@@ -227,7 +227,7 @@ and_false true = refl
 and_false false = refl
 
 -- a part of a slot that no edit changes
-edit_part : {A : Type 0} (part : Slot → A) (job : Job) (e : Edit) (v : Option EditError) (slot : Slot) → part
+pub edit_part : {A : Type 0} (part : Slot → A) (job : Job) (e : Edit) (v : Option EditError) (slot : Slot) → part
     (slot_edited job.project e slot) ≡ part slot → part (edit_does_slot job e v slot) ≡ part slot
 edit_part part job e None slot same = by (is_some job.ended)
   where
@@ -484,7 +484,7 @@ pub some_none : {A : Type 0} (x : A) → Some x ≡ None → ⊥
 some_none x h = absurd cc
 
 -- a place of which a job behind a journal has a slot had one at the start
-slots_none : (j : ℕ) (rest : List Entry) (job : Job) (at : ℕ) → slice_get job.slots at ≡ None → slice_get (fold
+pub slots_none : (j : ℕ) (rest : List Entry) (job : Job) (at : ℕ) → slice_get job.slots at ≡ None → slice_get (fold
     (job_does j) job rest).slots at ≡ None
 slots_none j [] job at h = h
 slots_none j (entry ∷ rest) job at h =

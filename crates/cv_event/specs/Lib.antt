@@ -6,3 +6,5 @@ pub mod Lines
 pub mod Readings
 pub mod TextLaws
 pub mod Laws
+pub mod ShownLaws
+pub mod ViewLaws

@@ -7,6 +7,8 @@ ghost use Rattle.cv_event.specs.Laws.{ComposerIsOfCompose, CacheOfOneCanvas, Cac
 ghost use Rattle.cv_event.specs.Laws.{TaskIsOfTheFirst, TaskIsLeastSlot, ComposeIsDue};
 ghost use Rattle.cv_event.specs.TextLaws.{LineTellsEntry, LineTellsRefused, TextTellsJournal};
 ghost use Rattle.cv_event.specs.TextLaws.{TextAndEditsTellJournal};
+ghost use Rattle.cv_event.specs.ViewLaws.{CachedViewsArePans};
+ghost use Rattle.cv_event.specs.ShownLaws.{PreviewListsReady, MissedByLooker, PublishedIsLastFinished};
 
 /// The present project is that of the opening behind all accepted edits.
 pub fn project_is_of_edits()
@@ -104,7 +106,8 @@ pub fn line_tells_refused()
     ensures { LineTellsRefused }
 {}
 
-/// A journal's text determines the entries but for their edits, the refused commands and the number of images.
+/// A journal's text determines the entries but for their edits, the refused commands and the number of
+/// images.
 pub fn text_tells_journal()
     ensures { TextTellsJournal }
 {}
@@ -112,4 +115,24 @@ pub fn text_tells_journal()
 /// With the list of the edits, accepted or refused, it determines the journal.
 pub fn text_and_edits_tell_journal()
     ensures { TextAndEditsTellJournal }
+{}
+
+/// A preview lists the job's ready slots.
+pub fn preview_lists_ready()
+    ensures { PreviewListsReady }
+{}
+
+/// The caller that a slot waits for looked at it and missed it.
+pub fn missed_by_looker()
+    ensures { MissedByLooker }
+{}
+
+/// A canvas's published picture is of what the last job took that was finished on it.
+pub fn published_is_last_finished()
+    ensures { PublishedIsLastFinished }
+{}
+
+/// All images in a cache are at pans of the canvas's present view.
+pub fn cached_views_are_pans()
+    ensures { CachedViewsArePans }
 {}

@@ -1,6 +1,7 @@
 //! The text of a journal.
 
-ghost use Rattle.std.specs.Prelude.{◌≡◌, ℕ, ◌++◌, ◌∷◌, [], ◌≤◌, ◌+◌, length, IfOk, OnOk, string_bytes, decimal};
+ghost use Rattle.std.specs.Prelude.{◌≡◌, ℕ, ◌++◌, ◌∷◌, [], ◌≤◌, ◌+◌, length, IfOk, OnOk};
+ghost use Rattle.std.specs.Prelude.{string_bytes, decimal};
 ghost use Rattle.std.specs.Prelude.{codes, if◌then◌else◌, ◌<◌};
 ghost use Rattle.std.specs.Fmt.{signed_decimal};
 ghost use Rattle.cv_event.specs.Lines.{corner_part};
@@ -18,7 +19,8 @@ use std::alloc::Global;
 
 /// Puts a slot behind others where it is set.
 fn push_where(slots: &mut Vec<u32>, slot: u32, is_set: bool) -> Result<(), NoMemory>
-    ensures { OnOk result (slots.new.items ≡ (if is_set then slots.old.items ++ slot ∷ [] else slots.old.items)) }
+    ensures { OnOk result (slots.new.items
+        ≡ (if is_set then slots.old.items ++ slot ∷ [] else slots.old.items)) }
 {
     if is_set {
         slots.push(slot)?;
@@ -51,7 +53,8 @@ fn push_number(text: &mut Vec<u8>, alloc: Global, number: u32) -> Result<(), NoM
 
 /// Puts further slots behind a text, each after a comma.
 fn push_slots(text: &mut Vec<u8>, alloc: Global, slots: &[u32]) -> Result<(), NoMemory>
-    ensures { OnOk result (text.new.items ≡ text.old.items ++ flat_map (λ slot. 44 ∷ decimal slot) slots.now) }
+    ensures { OnOk result (text.new.items
+        ≡ text.old.items ++ flat_map (λ slot. 44 ∷ decimal slot) slots.now) }
 {
     for slot in slots {
         text.push(b',')?;

@@ -1,0 +1,346 @@
+-- What previews list, who paints for a slot, and what is published.
+use Rattle.std.proofs.Common.{◌≡◌, ◌∙◌, sym, ap, refl, ℕ, zero, suc, ◌+◌, ◌*◌, ◌/◌, ◌%◌, ◌≤◌, ◌==◌, Bool, true, false}
+use Rattle.std.proofs.Common.{not, ◌&&◌, ◌||◌, List, [], ◌∷◌, length, map, Option, Some, None, slice_get, option_map}
+use Rattle.std.proofs.Common.{filter, option_and_then, is_some, IsSomeAnd, fold, arith, if◌then◌else◌}
+use Rattle.std.specs.List.{list_any}
+use Rattle.std.specs.Option.{option_or, option_map_or}
+use Rattle.std.proofs.lemmas.Bool.Decides.{nat_tests}
+use Rattle.std.proofs.lemmas.Bool.{false≢true}
+use Rattle.cv_model.specs.declared.edit.Edit.{Edit}
+use Rattle.cv_model.specs.declared.edit.EditError.{EditError}
+use Rattle.cv_model.specs.declared.project.CanvasSpec.{CanvasSpec}
+use Rattle.cv_model.specs.Views.{PixelGrid}
+use Rattle.cv_model.specs.Layers.{Layer, slots}
+use Rattle.cv_event.specs.declared.entry.Act.{Act}
+use Rattle.cv_event.specs.declared.entry.Act.TheVariants as act
+use Rattle.cv_event.specs.declared.entry.Entry.{Entry}
+use Rattle.cv_event.specs.declared.entry.Fate.{Fate}
+use Rattle.cv_event.specs.declared.entry.Fate.TheVariants.{Stored, Kept, Dropped}
+use Rattle.cv_event.specs.declared.slot.Slot.{Slot}
+use Rattle.cv_event.specs.declared.slot.Standing.{Standing}
+use Rattle.cv_event.specs.declared.slot.Standing.TheVariants.{Open, Missed, Ready, Lost}
+use Rattle.cv_event.specs.States.{Job, Cached, Canvas, State, change_at, job_in, view_on, canvas_edited}
+use Rattle.cv_event.specs.States.{stays, canvas_viewed, new_slot, new_job, started, looked, delivered, with_cache}
+use Rattle.cv_event.specs.States.{canvases_looked, canvases_delivered, taken_of, publishes, canvases_finished}
+use Rattle.cv_event.specs.States.{served, stored, edit_made, did, after, new_canvas, begin, replay}
+use Rattle.cv_event.specs.Legality.{is_ready, ready_from, ready_bits, LegalFrom}
+use Rattle.cv_event.specs.Lines.{set_bits, listed_slots}
+use Rattle.cv_event.specs.Laws.{entry_of, started_between}
+use Rattle.cv_event.specs.ShownLaws.{PreviewListsReady, is_miss, misses, MissedByLooker, published_on}
+use Rattle.cv_event.specs.ShownLaws.{finished_by, last_finished, PublishedIsLastFinished}
+use Rattle.cv_event.proofs.JobLemmas.{at_map, job_does, job_after, began}
+use Rattle.cv_event.proofs.EndLemmas.{or_more, or_none, fixed_more, IsFixed}
+use Rattle.cv_event.proofs.SlotLemmas.{changed, edit_part, on_slot, slot_does, slot_one, slots_none, same_some}
+use Rattle.cv_event.proofs.SlotLemmas.{some_none}
+use Rattle.cv_event.proofs.TakenLemmas.{seen_same, seen_map, cache_changed, taken_fixed}
+
+-- ---- previews
+
+-- no bits are set in 0
+set_none : (left k : ℕ) → set_bits left k 0 ≡ []
+set_none zero k = refl
+set_none (suc left) k = set_none left (k + 1)
+
+-- a bit in front of others
+set_more : (left k bits : ℕ) (b : Bool) (rest : List ℕ) → set_bits left (k + 1) bits ≡ rest
+    → set_bits (suc left) k (2 * bits + (if b then 1 else 0)) ≡ (if b then k ∷ rest else rest)
+set_more left k bits true rest h =
+    let odd : (2 * bits + 1) % 2 ≡ 1 = omega arith in
+    let half : (2 * bits + 1) / 2 ≡ bits = omega arith in
+    let others = set_bits left (k + 1) ((2 * bits + 1) / 2) in
+    ap (λ m. if m == 1 then k ∷ others else others) odd
+    ∙ ap (λ m. k ∷ set_bits left (k + 1) m) half ∙ ap (λ xs. k ∷ xs) h
+set_more left k bits false rest h =
+    let even : (2 * bits + 0) % 2 ≡ 0 = omega arith in
+    let half : (2 * bits + 0) / 2 ≡ bits = omega arith in
+    let others = set_bits left (k + 1) ((2 * bits + 0) / 2) in
+    ap (λ m. if m == 1 then k ∷ others else others) even ∙ ap (set_bits left (k + 1)) half ∙ h
+
+set_ready : (left k : ℕ) (xs : List Slot) → length xs ≤ left → set_bits left k (ready_bits xs) ≡ ready_from k xs
+set_ready left k [] few = set_none left k
+set_ready zero k (x ∷ xs) few = absurd (omega (arith, few))
+set_ready (suc left) k (x ∷ xs) few =
+    let next : k + 1 ≡ suc k = omega arith in
+    set_more left k (ready_bits xs) (is_ready x.standing) (ready_from (suc k) xs)
+    (ap (λ n. set_bits left n (ready_bits xs)) next ∙ set_ready left (suc k) xs (omega (arith, few)))
+
+listed : (xs : List Slot) → length xs ≤ 32 → listed_slots (ready_bits xs) ≡ ready_from 0 xs
+unfolding listed_slots
+listed xs few = set_ready 32 0 xs few
+
+pub preview_lists_ready : PreviewListsReady
+preview_lists_ready s who j bits allowed few = by (job_in s.jobs j) allowed few
+  where
+    by : (o : Option Job) → IsSomeAnd o (λ job. (job.ended ≡ None) × (bits ≡ ready_bits job.slots))
+        → IsSomeAnd o (λ job. length job.slots ≤ 32)
+        → listed_slots bits ≡ option_map_or (λ (job : Job). ready_from 0 job.slots) o []
+    by None allowed few = absurd few
+    by (Some job) allowed few = ap listed_slots allowed.1 ∙ listed job.slots few
+
+-- ---- who paints
+
+-- a slot waits for this caller
+abbrev waits : ℕ → Standing → Bool
+waits who Open = false
+waits who (Missed w) = w == who
+waits who Ready = false
+waits who Lost = false
+
+-- what makes it wait
+miss_looked : (who w : ℕ) (a b hit : Bool) (slot : Slot) → waits w (on_slot a b (looked who hit) slot).standing ≡ true
+    → (waits w slot.standing || (who == w && (a && (b && not hit)))) ≡ true
+miss_looked who w false b hit slot h = ap (λ x. x || (who == w && false)) h
+miss_looked who w true false hit slot h = ap (λ x. x || (who == w && false)) h
+miss_looked who w true true true slot h = absurd (false≢true h)
+miss_looked who w true true false slot h = by (waits w slot.standing) (who == w) h
+  where
+    by : (x y : Bool) → y ≡ true → (x || (y && true)) ≡ true
+    by true y h = refl
+    by false true h = refl
+    by false false h = h
+
+not_delivered : (w : ℕ) (fate : Fate) → waits w (delivered fate) ≡ false
+not_delivered w Stored = refl
+not_delivered w Kept = refl
+not_delivered w Dropped = refl
+
+miss_delivered : (who w : ℕ) (a b : Bool) (fate : Fate) (slot : Slot)
+    → waits w (on_slot a b (delivered fate) slot).standing ≡ true
+    → (waits w slot.standing || (who == w && false)) ≡ true
+miss_delivered who w false b fate slot h = ap (λ x. x || (who == w && false)) h
+miss_delivered who w true false fate slot h = ap (λ x. x || (who == w && false)) h
+miss_delivered who w true true fate slot h = absurd (false≢true (sym (not_delivered w fate) ∙ h))
+
+-- an act that leaves the slot waiting
+miss_stays : (who w : ℕ) (slot : Slot) → waits w slot.standing ≡ true
+    → (waits w slot.standing || (who == w && false)) ≡ true
+miss_stays who w slot h = ap (λ x. x || (who == w && false)) h
+
+miss_one : (j at w : ℕ) (job : Job) (who : ℕ) (a : Act) (slot : Slot)
+    → waits w (slot_does j at job who a slot).standing ≡ true
+    → (waits w slot.standing || (who == w && is_miss j at a)) ≡ true
+miss_one j at w job who (act.Edit e v) slot h =
+    miss_stays who w slot (sym (edit_part (λ (x : Slot). waits w x.standing) job e v slot refl) ∙ h)
+miss_one j at w job who (act.View c view) slot h = miss_stays who w slot h
+miss_one j at w job who (act.Start c k) slot h = miss_stays who w slot h
+miss_one j at w job who (act.Look k i hit) slot h = miss_looked who w (k == j) (i == at) hit slot h
+miss_one j at w job who (act.Deliver k i fate) slot h = miss_delivered who w (k == j) (i == at) fate slot h
+miss_one j at w job who (act.Compose k) slot h = miss_stays who w slot h
+miss_one j at w job who (act.Finish k) slot h = miss_stays who w slot h
+miss_one j at w job who (act.Fail k) slot h = miss_stays who w slot h
+miss_one j at w job who (act.Cancel k) slot h = miss_stays who w slot h
+miss_one j at w job who (act.Preview k bits) slot h = miss_stays who w slot h
+miss_one j at w job who (act.Save c k) slot h = miss_stays who w slot h
+
+miss_join : (a m r b : Bool) → (b ≡ true → (a || m) ≡ true) → (b || r) ≡ true → (a || (m || r)) ≡ true
+miss_join true m r b f h = refl
+miss_join false true r b f h = refl
+miss_join false false r true f h = absurd (false≢true (f refl))
+miss_join false false r false f h = h
+
+miss_more : (j at w : ℕ) (rest : List Entry) (job : Job) (slot now : Slot) → slice_get job.slots at ≡ Some slot
+    → slice_get (fold (job_does j) job rest).slots at ≡ Some now → waits w now.standing ≡ true
+    → (waits w slot.standing || list_any (misses w j at) rest) ≡ true
+miss_more j at w [] job slot now is behind h =
+    ap (λ (x : Slot). waits w x.standing || false) (same_some (slice_get job.slots at) is behind)
+    ∙ ap (λ b. b || false) h
+miss_more j at w (entry ∷ rest) job slot now is behind h =
+    let does = slot_does j at job entry.caller entry.act in
+    let next : slice_get (job_does j job entry).slots at ≡ Some (does slot) =
+    slot_one j entry.caller entry.act job at ∙ ap (option_map does) is in
+    miss_join (waits w slot.standing) (misses w j at entry) (list_any (misses w j at) rest)
+    (waits w (does slot).standing) (miss_one j at w job entry.caller entry.act slot)
+    (miss_more j at w rest (job_does j job entry) (does slot) now next behind h)
+
+itself : (n : ℕ) → (n == n) ≡ true
+itself n = grind (arith, nat_tests)
+
+pub missed_by_looker : MissedByLooker
+missed_by_looker o past rest who c j at painter legal job slot there is missed =
+    by (slice_get (slots (replay o past).project (began o past rest who c j legal).view) at) refl
+  where
+    by : (l : Option Layer)
+        → slice_get (slots (replay o past).project (began o past rest who c j legal).view) at ≡ l
+        → list_any (misses painter j at) rest ≡ true
+    by None none =
+        let b = began o past rest who c j legal in
+        let first = new_job c (replay o past).project b.view in
+        let same : job ≡ fold (job_does j) first rest = same_some (job_in (replay o (started_between past who c j rest)).jobs j) there b.job_is in
+        let gone = slots_none j rest first at (at_map new_slot (slots (replay o past).project b.view) at ∙ ap (option_map new_slot) none) in
+        absurd (some_none slot (sym is ∙ ap (λ (k : Job). slice_get k.slots at) same ∙ gone))
+    by (Some l) some =
+        let b = began o past rest who c j legal in
+        let first = new_job c (replay o past).project b.view in
+        let same : job ≡ fold (job_does j) first rest = same_some (job_in (replay o (started_between past who c j rest)).jobs j) there b.job_is in
+        miss_more j at painter rest first (new_slot l) slot
+        (at_map new_slot (slots (replay o past).project b.view) at ∙ ap (option_map new_slot) some)
+        (ap (λ (k : Job). slice_get k.slots at) (sym same) ∙ is)
+        (ap (waits painter) missed ∙ itself painter)
+
+-- ---- what is published
+
+-- a part of a canvas that only a finish changes
+pub record IsSeen {A : Type 0} (part : Canvas → Option A) : Type 0 where
+  pub viewed : (view : PixelGrid) (k : Canvas) → part (canvas_viewed view k) ≡ part k
+  pub cache : (cache : Canvas → List Cached) (k : Canvas) → part (with_cache cache k) ≡ part k
+
+-- the canvases behind an act that is a finish, and those before another
+abbrev finished : State → Act → List Canvas
+finished s (act.Finish j) = canvases_finished s j
+finished s _ = s.canvases
+
+seen_made : {A : Type 0} (part : Canvas → Option A) → IsSeen part → (s : State) (c : ℕ) (e : Edit) (v : Option EditError)
+    → option_and_then part (slice_get (edit_made e v s).canvases c) ≡ option_and_then part (slice_get s.canvases c)
+seen_made part seen s c e None =
+    seen_map part (canvas_edited s.project e) s.canvases c (λ k. seen.cache (λ (k : Canvas). filter (stays s.project e) k.cache) k)
+seen_made part seen s c e (Some error) = refl
+
+seen_started : {A : Type 0} (part : Canvas → Option A) (s : State) (c k : ℕ) (v : Option PixelGrid)
+    → option_and_then part (slice_get (started k v s).canvases c) ≡ option_and_then part (slice_get s.canvases c)
+seen_started part s c k None = refl
+seen_started part s c k (Some view) = refl
+
+seen_looked : {A : Type 0} (part : Canvas → Option A) → IsSeen part → (s : State) (c j at : ℕ) (hit : Bool)
+    → option_and_then part (slice_get (canvases_looked s j at hit) c) ≡ option_and_then part (slice_get s.canvases c)
+seen_looked part seen s c j at true = cache_changed part served s j at c seen.cache
+seen_looked part seen s c j at false = refl
+
+seen_delivered : {A : Type 0} (part : Canvas → Option A) → IsSeen part → (s : State) (c j at : ℕ) (fate : Fate)
+    → option_and_then part (slice_get (canvases_delivered s j at fate) c)
+    ≡ option_and_then part (slice_get s.canvases c)
+seen_delivered part seen s c j at Stored = cache_changed part stored s j at c seen.cache
+seen_delivered part seen s c j at Kept = refl
+seen_delivered part seen s c j at Dropped = refl
+
+seen_one : {A : Type 0} (part : Canvas → Option A) → IsSeen part → (s : State) (who c : ℕ) (a : Act)
+    → option_and_then part (slice_get (did s who a).canvases c) ≡ option_and_then part (slice_get (finished s a) c)
+seen_one part seen s who c (act.Edit e v) = seen_made part seen s c e v
+seen_one part seen s who c (act.View k view) = seen_same part (canvas_viewed view) s.canvases k c (seen.viewed view)
+seen_one part seen s who c (act.Start k j) = seen_started part s c k (view_on s k)
+seen_one part seen s who c (act.Look j at hit) = seen_looked part seen s c j at hit
+seen_one part seen s who c (act.Deliver j at fate) = seen_delivered part seen s c j at fate
+seen_one part seen s who c (act.Compose j) = refl
+seen_one part seen s who c (act.Finish j) = refl
+seen_one part seen s who c (act.Fail j) = refl
+seen_one part seen s who c (act.Cancel j) = refl
+seen_one part seen s who c (act.Preview j bits) = refl
+seen_one part seen s who c (act.Save k j) = refl
+
+-- a canvas stays
+abbrev presence : Canvas → Option ℕ
+presence k = Some 0
+
+presence_seen : IsSeen presence
+presence_seen = record { viewed = λ view k. refl; cache = λ cache k. refl }
+
+abbrev IsThere : State → ℕ → Type 0
+IsThere s c = option_and_then presence (slice_get s.canvases c) ≡ Some 0
+
+published_seen : IsSeen (λ (k : Canvas). k.published)
+published_seen = record { viewed = λ view k. refl; cache = λ cache k. refl }
+
+there_finished : (s : State) (c j : ℕ) (o : Option Job)
+    → option_and_then presence (slice_get (option_map_or (λ (job : Job). change_at job.canvas (publishes j job) s.canvases) o s.canvases) c)
+    ≡ option_and_then presence (slice_get s.canvases c)
+there_finished s c j None = refl
+there_finished s c j (Some job) = seen_same presence (publishes j job) s.canvases job.canvas c (λ k. refl)
+
+there_act : (s : State) (c : ℕ) (a : Act)
+    → option_and_then presence (slice_get (finished s a) c) ≡ option_and_then presence (slice_get s.canvases c)
+there_act s c (act.Edit e v) = refl
+there_act s c (act.View k view) = refl
+there_act s c (act.Start k j) = refl
+there_act s c (act.Look j at hit) = refl
+there_act s c (act.Deliver j at fate) = refl
+there_act s c (act.Compose j) = refl
+there_act s c (act.Finish j) = there_finished s c j (job_in s.jobs j)
+there_act s c (act.Fail j) = refl
+there_act s c (act.Cancel j) = refl
+there_act s c (act.Preview j bits) = refl
+there_act s c (act.Save k j) = refl
+
+-- what a finish publishes on a canvas that is there
+publish_where : (b : Bool) (j : ℕ) (job : Job) (o : Option Canvas) → option_and_then presence o ≡ Some 0
+    → option_and_then (λ (k : Canvas). k.published) (option_map (λ k. if b then publishes j job k else k) o)
+    ≡ option_or (if b then Some (taken_of j job) else None) (option_and_then (λ (k : Canvas). k.published) o)
+publish_where b j job None there = absurd cc
+publish_where true j job (Some k) there = refl
+publish_where false j job (Some k) there = refl
+
+canvas_fixed : IsFixed (λ (job : Job). job.canvas)
+canvas_fixed = record { slots = λ job slots. refl; composer = λ job o. refl; ended = λ job o. refl }
+
+-- what a state behind further entries says of what a job took, and of its canvas
+finished_later : (t : State) (c j : ℕ) (job now : Job) → job_in t.jobs j ≡ Some now → taken_of j now ≡ taken_of j job
+    → now.canvas ≡ job.canvas
+    → finished_by t c (act.Finish j) ≡ (if job.canvas == c then Some (taken_of j job) else None)
+finished_later t c j job now is took on =
+    (λ i. if option_map_or (λ (job : Job). job.canvas == c) (is i) false then option_map (taken_of j) (is i) else None)
+    ∙ (λ i. if on i == c then Some (took i) else None)
+
+publish_finish : (s : State) (rest : List Entry) (who c j : ℕ) → LegalFrom s (entry_of who (act.Finish j) ∷ rest)
+    → IsThere s c
+    → published_on (did s who (act.Finish j)) c
+    ≡ option_or (finished_by (fold after s (entry_of who (act.Finish j) ∷ rest)) c (act.Finish j)) (published_on s c)
+publish_finish s rest who c j legal there = by (job_in s.jobs j) refl legal.0
+  where
+    by : (o : Option Job) → job_in s.jobs j ≡ o
+        → IsSomeAnd o (λ job. (job.composer ≡ Some who) × (job.ended ≡ None))
+        → published_on (did s who (act.Finish j)) c
+        ≡ option_or (finished_by (fold after s (entry_of who (act.Finish j) ∷ rest)) c (act.Finish j)) (published_on s c)
+    by None is allowed = absurd allowed
+    by (Some job) is allowed =
+        let entries = entry_of who (act.Finish j) ∷ rest in
+        let now = fold (job_does j) job entries in
+        ap (λ (o : Option Job). option_and_then (λ (k : Canvas). k.published) (slice_get (option_map_or (λ (job : Job). change_at job.canvas (publishes j job) s.canvases) o s.canvases) c)) is
+        ∙ ap (option_and_then (λ (k : Canvas). k.published)) (changed (publishes j job) s.canvases job.canvas c)
+        ∙ publish_where (job.canvas == c) j job (slice_get s.canvases c) there
+        ∙ ap (λ o. option_or o (published_on s c)) (sym (finished_later (fold after s entries) c j job now
+        (job_after s entries j job legal is) (fixed_more (taken_of j) (taken_fixed j) j entries job)
+        (fixed_more (λ (job : Job). job.canvas) canvas_fixed j entries job)))
+
+publish_one : (s : State) (rest : List Entry) (who c : ℕ) (a : Act) → LegalFrom s (entry_of who a ∷ rest)
+    → IsThere s c
+    → published_on (did s who a) c
+    ≡ option_or (finished_by (fold after s (entry_of who a ∷ rest)) c a) (published_on s c)
+publish_one s rest who c (act.Edit e v) legal there = seen_one _ published_seen s who c (act.Edit e v)
+publish_one s rest who c (act.View k view) legal there = seen_one _ published_seen s who c (act.View k view)
+publish_one s rest who c (act.Start k j) legal there = seen_one _ published_seen s who c (act.Start k j)
+publish_one s rest who c (act.Look j at hit) legal there = seen_one _ published_seen s who c (act.Look j at hit)
+publish_one s rest who c (act.Deliver j at fate) legal there =
+    seen_one _ published_seen s who c (act.Deliver j at fate)
+publish_one s rest who c (act.Compose j) legal there = refl
+publish_one s rest who c (act.Finish j) legal there = publish_finish s rest who c j legal there
+publish_one s rest who c (act.Fail j) legal there = refl
+publish_one s rest who c (act.Cancel j) legal there = refl
+publish_one s rest who c (act.Preview j bits) legal there = refl
+publish_one s rest who c (act.Save k j) legal there = refl
+
+publish_more : (s : State) (rest : List Entry) (c : ℕ) → LegalFrom s rest → IsThere s c
+    → published_on (fold after s rest) c ≡ option_or (last_finished (fold after s rest) c rest) (published_on s c)
+publish_more s [] c legal there = refl
+publish_more s (entry ∷ rest) c legal there =
+    let t = fold after s (entry ∷ rest) in
+    publish_more (after s entry) rest c legal.1
+    (seen_one presence presence_seen s entry.caller c entry.act ∙ there_act s c entry.act ∙ there)
+    ∙ ap (option_or (last_finished t c rest)) (publish_one s rest entry.caller c entry.act legal there)
+    ∙ sym (or_more (last_finished t c rest) (finished_by t c entry.act) (published_on s c))
+
+-- a canvas as it is opened is there, and has no picture
+there_first : (specs : List CanvasSpec) (c : ℕ) → is_some (slice_get specs c) ≡ true
+    → option_and_then presence (slice_get (map new_canvas specs) c) ≡ Some 0
+there_first [] c is = absurd (false≢true is)
+there_first (spec ∷ specs) zero is = refl
+there_first (spec ∷ specs) (suc c) is = there_first specs c is
+
+none_first : (specs : List CanvasSpec) (c : ℕ)
+    → option_and_then (λ (k : Canvas). k.published) (slice_get (map new_canvas specs) c) ≡ None
+none_first [] c = refl
+none_first (spec ∷ specs) zero = refl
+none_first (spec ∷ specs) (suc c) = none_first specs c
+
+pub published_is_last_finished : PublishedIsLastFinished
+published_is_last_finished o journal c legal there =
+    publish_more (begin o) journal c legal (there_first o.canvases c there)
+    ∙ ap (option_or (last_finished (replay o journal) c journal)) (none_first o.canvases c)
+    ∙ or_none (last_finished (replay o journal) c journal)
