@@ -1,24 +1,22 @@
 //! Worked pictures. A pixel is a map unit each way, and the bottom left one lies at the origin.
 ghost use Rattle.cv_model.specs.Positions.{IsCoordinate};
 
-use crate::layer_tests::{marks_of, text_layer};
 use crate::quick;
 use cv_geom::view_of;
-use cv_layer::LayerInput;
 use cv_model::{
     Extent, Feature, FeatureList, Geometry, Marker, NoMemory, Pen, Point, Rgb, Rgba, Sequence,
-    Shape, Style, Symbol, Values, View,
+    Shape, Symbol, Values, View,
 };
 use std::alloc::Global;
 use std::test::Fail;
 
 /// Points by their coordinates in quarters of a map unit.
-pub type Path<'a> = &'a [(i32, i32)];
+type Path<'a> = &'a [(i32, i32)];
 
 /// The ring round a whole picture of four by four.
-pub const WHOLE: Path<'static> = &[(0, 0), (16, 0), (16, 16), (0, 16), (0, 0)];
+const WHOLE: Path<'static> = &[(0, 0), (16, 0), (16, 16), (0, 16), (0, 0)];
 
-pub const RED: Rgba = Rgba {
+const RED: Rgba = Rgba {
     r: 255,
     g: 0,
     b: 0,
@@ -32,7 +30,7 @@ const HALF_RED: Rgba = Rgba {
     a: 128,
 };
 
-pub const GREEN: Rgba = Rgba {
+const GREEN: Rgba = Rgba {
     r: 0,
     g: 255,
     b: 0,
@@ -47,7 +45,7 @@ const BLUE: Rgba = Rgba {
 };
 
 /// A symbol of a fill alone.
-pub fn fill(colour: Rgba) -> Symbol {
+fn fill(colour: Rgba) -> Symbol {
     Symbol {
         fill: Some(colour),
         pen: None,
@@ -121,7 +119,7 @@ fn paths(alloc: Global, given: &[Path]) -> Result<Sequence<Sequence<Point>>, NoM
 }
 
 /// A geometry of points, of lines, and of a polygon with these rings.
-pub fn geometry(
+fn geometry(
     alloc: Global,
     alone: Path,
     lines: &[Path],
@@ -153,7 +151,7 @@ fn features(
 }
 
 /// The view of so many map units, a pixel each.
-pub fn units(across: u16, upwards: u16) -> Result<View, Fail> {
+fn units(across: u16, upwards: u16) -> Result<View, Fail> {
     let extent = Extent {
         xmin: 0,
         ymin: 0,
@@ -164,7 +162,7 @@ pub fn units(across: u16, upwards: u16) -> Result<View, Fail> {
 }
 
 /// What stands for a colour: `h` for the half red laid once on white, `t` for twice.
-pub fn mark(colour: Rgb) -> char {
+fn mark(colour: Rgb) -> char {
     match (colour.r, colour.g, colour.b) {
         (255, 255, 255) => '.',
         (255, 0, 0) => 'r',
@@ -172,12 +170,11 @@ pub fn mark(colour: Rgb) -> char {
         (0, 0, 255) => 'b',
         (255, 127, 127) => 'h',
         (255, 63, 63) => 't',
-        (200, 200, 200) => 'c',
         _ => '?',
     }
 }
 
-/// The marks of a layer's pixels, row by row from the top. Both painters have them alike.
+/// The picture's marks, row by row from the top.
 fn painted(
     alloc: Global,
     first: Option<Geometry>,
@@ -185,19 +182,12 @@ fn painted(
     symbol: &Symbol,
     view: &View,
 ) -> Result<String, Fail> {
-    let list = features(alloc, first, second)?;
-    let picture = quick(alloc, &list, symbol, view)?;
-    let mut plain = String::new(alloc);
+    let picture = quick(alloc, &features(alloc, first, second)?, symbol, view)?;
+    let mut marks = String::new(alloc);
     for pixel in picture.pixels().as_slice() {
-        plain.push(mark(*pixel))?;
+        marks.push(mark(*pixel))?;
     }
-    let layer = text_layer(alloc, list, Style::Single(*symbol), None, None)?;
-    let marks = marks_of(alloc, LayerInput::of(layer, None, None), *view)?;
-    if marks.as_str() == plain.as_str() {
-        Ok(marks)
-    } else {
-        Err(Fail::new("the painters differ"))
-    }
+    Ok(marks)
 }
 
 #[test]
