@@ -22,8 +22,3 @@ mod texts;
 pub use error::PaintError;
 pub use painted::paint;
 pub use plain::quick;
-
-#[cfg(test)]
-mod layer_tests;
-#[cfg(test)]
-mod tests;
