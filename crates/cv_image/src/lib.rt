@@ -4,7 +4,7 @@
 //! Definitions: `Rasters` of `cv_model`. Takes memory for the bytes; no handle.
 #![tactic(auto)]
 
-pub mod pixmap;
+mod pixmap;
 
 pub use pixmap::ppm;
 

@@ -45,12 +45,12 @@ straddles a b ps =
 
 -- the segment from a to b meets the square of half-side r round p: their boxes overlap, and the square
 -- straddles the line
-unfoldable pub meets : ℤ → Position → Position → Position → Bool
-meets r p a b = overlaps r p.x a.x b.x && overlaps r p.y a.y b.y && straddles a b (corners r p)
+unfoldable pub meets_square : ℤ → Position → Position → Position → Bool
+meets_square r p a b = overlaps r p.x a.x b.x && overlaps r p.y a.y b.y && straddles a b (corners r p)
 
 -- an edge of a geometry is hit by the pen of half-width r at the doubled position p
 abbrev pub is_near : ℤ → Position → Position × Position → Bool
-is_near r p edge = meets r p (doubled edge.0) (doubled edge.1)
+is_near r p edge = meets_square r p (doubled edge.0) (doubled edge.1)
 
 -- the segments of a line: each point with the next, and of a single point the one from it to itself
 abbrev pub segments : List Position → List (Position × Position)

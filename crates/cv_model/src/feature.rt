@@ -80,4 +80,19 @@ impl FeatureList {
     {
         self.notes.as_slice()
     }
+
+    /// The columns, the features and the notes by themselves.
+    pub fn into_parts(self) -> (Values, Sequence<Feature>, Sequence<Note>)
+        ensures columns { result.0 ≡ self.columns }
+        ensures features { result.1 ≡ self.features }
+        ensures notes { result.2 ≡ self.notes }
+        ensures kept { IsFeatureTable self }
+    {
+        let FeatureList {
+            columns,
+            features,
+            notes,
+        } = self;
+        (columns, features, notes)
+    }
 }

@@ -152,4 +152,12 @@ impl Grid {
     {
         self.cells.as_slice()
     }
+
+    /// The cells by themselves.
+    pub fn into_cells(self) -> CellList
+        ensures { result ≡ self.cells }
+    {
+        let Grid { cells, .. } = self;
+        cells
+    }
 }

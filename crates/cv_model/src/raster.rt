@@ -1,6 +1,6 @@
 //! Finished images.
 
-ghost use Rattle.std.specs.Prelude.{◌≡◌, ◌*◌, length};
+ghost use Rattle.std.specs.Prelude.{◌≡◌, ◌≤◌, ◌+◌, ◌*◌, ◌++◌, length, take, drop};
 
 use crate::colour::{Rgb, Rgba};
 use crate::sequence::Sequence;
@@ -65,6 +65,18 @@ impl<T> Pixels<T> {
         ensures { result ≡ self.now.height }
     {
         self.height
+    }
+
+    /// Writes these pixels in the places from `at` on, counted row by row from the top.
+    pub fn copy_in(&mut self, at: u64, pixels: &[T])
+    where
+        T: Copy,
+        requires within { at + length pixels.now ≤ length self.old.pixels }
+        ensures size { (self.new.width ≡ self.old.width) × (self.new.height ≡ self.old.height) }
+        ensures pixels { self.new.pixels ≡ take at self.old.pixels ++ pixels.now
+            ++ drop (at + length pixels.now) self.old.pixels }
+    {
+        self.pixels.copy_in(at, pixels);
     }
 
     /// The pixels, row by row from the top.

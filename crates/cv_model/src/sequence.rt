@@ -1,6 +1,7 @@
 //! A list of items, for all types that are seen as a list alone.
 
-ghost use Rattle.std.specs.Prelude.{◌≡◌, ◌++◌, ◌∷◌, [], length, OnOk, OnErr, IfOk, IfErr, slice_get};
+ghost use Rattle.std.specs.Prelude.{◌≡◌, ◌≤◌, ◌+◌, ◌++◌, ◌∷◌, [], length, take, drop};
+ghost use Rattle.std.specs.Prelude.{OnOk, OnErr, IfOk, IfErr, slice_get};
 ghost use Rattle.std.specs.Option.{option_copied};
 
 use crate::NoMemory;
@@ -75,10 +76,29 @@ impl<T> Sequence<T> {
         self.items.len() as u64
     }
 
+    /// Writes these items in the places from `at` on.
+    pub fn copy_in(&mut self, at: u64, items: &[T])
+    where
+        T: Copy,
+        requires within { at + length items.now ≤ length self.old }
+        ensures { self.new ≡ take at self.old ++ items.now ++ drop (at + length items.now) self.old }
+    {
+        let from = at as usize;
+        self.items[from..from + items.len()].copy_from_slice(items);
+    }
+
     /// The items in order.
     pub fn as_slice(&self) -> &[T]
         ensures { result.now ≡ self.now }
     {
         self.items.as_slice()
+    }
+
+    /// The items as a vector. Nothing is copied.
+    pub fn into_vec(self) -> Vec<T>
+        ensures { result.items ≡ self }
+    {
+        let Sequence { items } = self;
+        items
     }
 }

@@ -54,7 +54,8 @@ fn lay_rows<C: Canvas, L: Ledger>(
     requires ink { TakesLayer (C.frame canvas.old).ink input.now.parts }
     ensures frame { C.frame canvas.new ≡ C.frame canvas.old }
     ensures laid { OnOk result (Lays view.now
-        (λ p. flat_map (feature_strokes input.now.parts view.now p) rows.now) (C.at canvas.old) (C.at canvas.new)) }
+        (λ p. flat_map (feature_strokes input.now.parts view.now p) rows.now)
+        (C.at canvas.old) (C.at canvas.new)) }
 {
     for row in rows {
         lay_row(canvas, row, input, view, work, steps)?;

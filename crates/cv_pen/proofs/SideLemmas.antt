@@ -6,7 +6,7 @@ use Rattle.std.specs.List.{list_all}
 use Rattle.std.proofs.lemmas.Int.{ints, clamps, unsigned_abs-mul}
 use Rattle.cv_model.specs.Positions.{Position}
 use Rattle.cv_model.specs.Views.{PixelGrid, centre_of}
-use Rattle.cv_model.specs.Pens.{overlaps, side_of, corners, straddles, meets}
+use Rattle.cv_model.specs.Pens.{overlaps, side_of, corners, straddles, meets_square}
 use Rattle.cv_geom.specs.Falls.{FallsIn}
 use Rattle.cv_geom.proofs.ProductLemmas.{add-mul, mul-le-mulZ}
 use Rattle.cv_geom.proofs.CentreLemmas.{centres-rise}
@@ -277,8 +277,8 @@ are-corners r p a b some rises =
 -- behind
 pub meets-up :
     (r : ℤ) (p a b : Position) → pos 0 ≤ℤ r → a.y ≤ℤ b.y → overlaps r p.y a.y b.y ≡ true
-    → meets r p a b ≡ (not (is_before r p a b) && is_reached r p a b)
-unfolding meets
+    → meets_square r p a b ≡ (not (is_before r p a b) && is_reached r p a b)
+unfolding meets_square
 meets-up r p a b some rises level =
     let c = side_of a b p in
     let are = are-corners r p a b some rises in
@@ -302,8 +302,8 @@ meets-up r p a b some rises level =
 
 -- where their heights don't overlap it hits nothing
 pub meets-none :
-    (r : ℤ) (p a b : Position) → overlaps r p.y a.y b.y ≡ false → meets r p a b ≡ false
-unfolding meets
+    (r : ℤ) (p a b : Position) → overlaps r p.y a.y b.y ≡ false → meets_square r p a b ≡ false
+unfolding meets_square
 meets-none r p a b level = by (overlaps r p.x a.x b.x) (overlaps r p.y a.y b.y) (straddles a b (corners r p)) level
   where
     by : (x y s : Bool) → y ≡ false → ((x && y) && s) ≡ false
@@ -373,8 +373,8 @@ comm false true = refl
 comm false false = refl
 
 -- a pen hits a segment in both directions alike
-pub meets-flip : (r : ℤ) (p a b : Position) → meets r p a b ≡ meets r p b a
-unfolding meets
+pub meets-flip : (r : ℤ) (p a b : Position) → meets_square r p a b ≡ meets_square r p b a
+unfolding meets_square
 meets-flip r p a b =
     all-of _ _ _ _ (overlaps-flip r p.x a.x b.x) (overlaps-flip r p.y a.y b.y) _ _ _ _ (left-flip a b (corners r p))
     (sym (left-flip b a (corners r p)))

@@ -1,8 +1,9 @@
 //! The project file, read and written.
 //!
-//! Contract: a file is read exactly where its JSON tree says it, and else the refusal that the tables name is
-//! answered; what is written is read as the same file. Definitions: `Fields`, `Lists` and `Kinds`, by which the
-//! tables of `Symbols` to `Projects` are written, one line a field; `Trees`, what is written, likewise.
+//! Contract: a file is read exactly where its JSON tree says it, and else the refusal that the tables name
+//! is answered; what is written is read as the same file. Definitions: `Fields`, `Lists` and `Kinds`, by
+//! which the tables of `Symbols` to `Projects` are written, one line a field; `Trees`, what is written,
+//! likewise.
 //! Memory is taken for the tree and for what is read or written; no handle is needed.
 #![tactic(auto)]
 

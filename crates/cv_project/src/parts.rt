@@ -317,7 +317,8 @@ fn text_source(
     geometry: &Text,
 ) -> Result<Value, NoMemory>
     ensures { IfOk result
-        (λ value. view value ≡ object_of (text_source_fields file.now (delimiter_word delimiter) geometry.now)) }
+        (λ value. view value
+            ≡ object_of (text_source_fields file.now (delimiter_word delimiter) geometry.now)) }
 {
     let mut fields = Object::new(alloc);
     fields.always("delimiter", &Spelt(delimiter))?;

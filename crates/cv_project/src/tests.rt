@@ -437,7 +437,8 @@ const REAL_WRITTEN: &str = "{\"background\":\"ffffff\",\
 {\"blend\":\"normal\",\"id\":40,\"name\":\"towns\",\"opacity\":255,\
 \"source\":{\"delimiter\":\"semicolon\",\"file\":\"towns.csv\",\"geometry\":\"geom\",\"kind\":\"text\"},\
 \"style\":{\"classes\":[\
-{\"lower\":\"0\",\"symbol\":{\"marker\":{\"colour\":\"000000ff\",\"shape\":\"square\",\"size\":3}},\"upper\":\"1000\"},\
+{\"lower\":\"0\",\"symbol\":{\"marker\":{\"colour\":\"000000ff\",\"shape\":\"square\",\"size\":3}},\
+\"upper\":\"1000\"},\
 {\"lower\":\"1000\",\"symbol\":{\"marker\":{\"colour\":\"ff0000ff\",\"shape\":\"circle\",\"size\":9}},\
 \"upper\":\"10000\"}],\"field\":\"pop\",\"kind\":\"graduated\"},\"visible\":true},\
 {\"blend\":\"normal\",\"id\":30,\"name\":\"roads\",\"opacity\":255,\

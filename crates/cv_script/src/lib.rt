@@ -35,11 +35,11 @@ const MOST_LINES: u32 = 100_000;
 
 /// The commands of a script with their lines, or the first line that is refused.
 ///
-/// A script is lines of UTF-8 that end at LF, before which a CR is dropped; the last needn't end. A byte order
-/// mark in front of the first is dropped too. A line that is white, or whose first byte that isn't white is
-/// `#`, has no command. Any other is words between spaces and tabs: the command's name and its arguments. A
-/// word that begins with `"` ends at the next `"` that isn't doubled, and `""` in it is one `"`; no other word
-/// has a `"`. Source: this project's own.
+/// A script is lines of UTF-8 that end at LF, before which a CR is dropped; the last needn't end. A byte
+/// order mark in front of the first is dropped too. A line that is white, or whose first byte that isn't
+/// white is `#`, has no command. Any other is words between spaces and tabs: the command's name and its
+/// arguments. A word that begins with `"` ends at the next `"` that isn't doubled, and `""` in it is one
+/// `"`; no other word has a `"`. Source: this project's own.
 #[tactic(auto, unfolding(crate::specs::Scripts::script_of), using(crate::proofs::CommandLemmas::read_kept))]
 pub fn read(alloc: Global, bytes: &[u8]) -> Result<Script, ScriptError>
     // The commands of the lines, or the first line that isn't in the grammar, or is behind the 100,000th.
