@@ -341,3 +341,34 @@ put_keyed before after painted (Err e) keyed ok err =
     subst (λ (c : LruCache ℕ Painting). IsKeyed c.entries) (sym err) keyed
 put_keyed before after painted (Ok u) keyed ok err =
     subst (λ (c : LruCache ℕ Painting). IsKeyed c.entries) (sym ok) (keyed_put before.entries before.cap (painted_id painted) painted keyed refl)
+
+-- ---- the first that depends on a layer is taken out
+
+pub taken_out : (layer id : ℕ) (before after : LruCache ℕ Painting) → IsDistinct nat_eq (keys_of before.entries)
+    → option_map (λ (e : ℕ × Painting). e.0) (find (depends layer) before.entries) ≡ Some id
+    → after ≡ lru_cache (remove_entry (nat_eq id) before.entries) before.cap
+    → (independent layer (values_of after.entries) ≡ independent layer (values_of before.entries))
+    × (length after.entries < length before.entries) × (IsKeyed before.entries → IsKeyed after.entries)
+    × (after.cap ≡ before.cap)
+taken_out layer id before after apart first out = by (find (depends layer) before.entries) refl first
+  where
+    by : (o : Option (ℕ × Painting)) → find (depends layer) before.entries ≡ o
+        → option_map (λ (e : ℕ × Painting). e.0) o ≡ Some id
+        → (independent layer (values_of after.entries) ≡ independent layer (values_of before.entries))
+        × (length after.entries < length before.entries) × (IsKeyed before.entries → IsKeyed after.entries)
+        × (after.cap ≡ before.cap)
+    by None is first = absurd cc
+    by (Some e) is first =
+        let key : e.0 ≡ id = cc in
+        let entries : after.entries ≡ remove_entry (nat_eq e.0) before.entries =
+        ap (λ (c : LruCache ℕ Painting). c.entries) out ∙ ap (λ k. remove_entry (nat_eq k) before.entries) (sym key) in
+        let removed = dependent_removed layer before.entries e apart is in
+        (ap (λ es. independent layer (values_of es)) entries ∙ removed.0, omega (arith, removed.1, ap length entries), λ keyed. subst IsKeyed (sym entries) (keyed_removed e.0 before.entries keyed), ap (λ (c : LruCache ℕ Painting). c.cap) out)
+
+pub none_left : (layer : ℕ) (es : Entries) → option_map (λ (e : ℕ × Painting). e.0) (find (depends layer) es) ≡ None
+    → values_of es ≡ independent layer (values_of es)
+none_left layer es h = none_depend layer es (by (find (depends layer) es) h)
+  where
+    by : (o : Option (ℕ × Painting)) → option_map (λ (e : ℕ × Painting). e.0) o ≡ None → o ≡ None
+    by None h = refl
+    by (Some e) h = absurd cc

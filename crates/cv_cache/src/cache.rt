@@ -1,7 +1,7 @@
 //! The cache of a canvas.
 
 ghost use Rattle.std.specs.Prelude.{◌≡◌, [], OnOk, OnErr, IfOk, IfErr};
-ghost use Rattle.cv_cache.specs.Caches.{CacheParts, Looked, Serves, put_front};
+ghost use Rattle.cv_cache.specs.Caches.{CacheParts, Looked, Serves, put_front, independent};
 ghost use Rattle.cv_model.specs.Paintings.{Painting};
 ghost use Rattle.cv_layer.specs.Stamps.{stamp_list};
 
@@ -89,5 +89,15 @@ impl LayerCache {
         if let Some(images) = &mut self.images {
             images.clear();
         }
+    }
+
+    /// Takes out the images that depend on a layer. Takes no memory.
+    pub fn drop_dependents(&mut self, layer: u32)
+        ensures { self.new ≡ record self.old { paintings = (independent layer self.old.paintings) } }
+    {
+        let Some(images) = &mut self.images else {
+            return;
+        };
+        held::drop_dependents(images, layer);
     }
 }

@@ -1,11 +1,13 @@
 //! Whether a painted layer is the one that is looked for.
 
-ghost use Rattle.std.specs.Prelude.{◌≡◌};
+ghost use Rattle.std.specs.Prelude.{◌≡◌, nat_eq, option_map};
+ghost use Rattle.std.specs.List.{list_any};
+ghost use Rattle.std.specs.Option.{option_to_list};
 ghost use Rattle.std.specs.Bool.{Decides};
-ghost use Rattle.cv_cache.specs.Caches.{Suits, painted_id};
+ghost use Rattle.cv_cache.specs.Caches.{Suits, painted_id, depends_on};
 ghost use Rattle.cv_layer.specs.Stamps.{stamp_list};
 
-use cv_layer::{PaintedLayer, Stamps};
+use cv_layer::{Layer, PaintedLayer, Stamps};
 use cv_model::View;
 
 /// Whether two views are the same.
@@ -34,4 +36,32 @@ pub(crate) fn layer_of(painted: &PaintedLayer) -> u32
     ensures { result ≡ painted_id painted.now }
 {
     painted.input().value().layer().id()
+}
+
+/// Whether a painted layer is of a layer, or has it as its mask layer or its join layer.
+pub(crate) fn depends_on(painted: &PaintedLayer, layer: u32) -> bool
+    ensures { result ≡ depends_on layer painted.now }
+{
+    let own = painted.input().value().layer();
+    own.id() == layer || is_named(own.mask(), layer) || is_named(joined_layer(own), layer)
+}
+
+/// Whether a layer is named.
+fn is_named(id: Option<u32>, layer: u32) -> bool
+    ensures { result ≡ list_any (nat_eq layer) (option_to_list id) }
+{
+    match id {
+        Some(id) => id == layer,
+        None => false,
+    }
+}
+
+/// The layer that a layer takes joined texts from, if it names one.
+fn joined_layer(layer: &Layer) -> Option<u32>
+    ensures { result ≡ option_map (λ j. j.layer) layer.now.core.join }
+{
+    match layer.join() {
+        Some(join) => Some(join.layer),
+        None => None,
+    }
 }
