@@ -125,8 +125,8 @@ pub fn preview_lists_ready()
     ensures { PreviewListsReady }
 {}
 
-/// A slot waits for the delivery of a caller exactly where this caller looked at it and missed it, and no delivery
-/// of it stands.
+/// A slot waits for the delivery of a caller exactly where this caller looked at it and missed it, and no
+/// delivery of it stands.
 pub fn delivery_is_by_looker()
     ensures { DeliveryIsByLooker }
 {}
@@ -151,8 +151,8 @@ pub fn slots_are_of_the_taken()
     ensures { SlotsAreOfTheTaken }
 {}
 
-/// A slot of a job without end is fresh where the job's view is its canvas's last one, and no edit behind the start
-/// touches one of its dependencies.
+/// A slot of a job without end is fresh where the job's view is its canvas's last one, and no edit behind the
+/// start touches one of its dependencies.
 pub fn fresh_is_of_edits()
     ensures { FreshIsOfEdits }
 {}
