@@ -2,3 +2,4 @@
 pub mod ReachLemmas
 pub mod RunLemmas
 pub mod MarkLemmas
+pub mod CrossingLemmas

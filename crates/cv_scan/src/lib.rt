@@ -10,7 +10,6 @@
 
 mod crossings;
 mod fills;
-mod hints;
 mod marks;
 mod reaches;
 mod row;
