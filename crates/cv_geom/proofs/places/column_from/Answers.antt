@@ -14,7 +14,7 @@ returns c =
       low_in = falls.low_in;
       high_in = falls.high_in;
       falls = λ i from below.
-          column-same v c.args.sides.now i c.way_before.result c.args.x c.requires.sides 
+          column-same v c.args.sides.now i c.way_before.result c.args.x c.requires.sides
           (rw (to_z-of_z w64 c.args.x c.ranges.x) at c.way_before.ensures)
           ∙ falls.falls i from below;
     }

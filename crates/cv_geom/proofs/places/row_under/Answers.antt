@@ -14,7 +14,7 @@ returns c =
       low_in = falls.low_in;
       high_in = falls.high_in;
       falls = λ j from below.
-          row-same v c.args.sides.now j c.way_down.result c.args.y c.requires.sides 
+          row-same v c.args.sides.now j c.way_down.result c.args.y c.requires.sides
           (rw (to_z-of_z w64 c.args.y c.ranges.y) at c.way_down.ensures)
           ∙ falls.falls j from below;
     }
