@@ -14,3 +14,4 @@ pub mod ShownLemmas
 pub mod PanLemmas
 pub mod DueLemmas
 pub mod DistinctLemmas
+pub mod FitLemmas

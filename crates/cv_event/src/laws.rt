@@ -6,12 +6,13 @@ ghost use Rattle.cv_event.specs.Laws.{SupersededJobsAreVoid, SlotsAreAsLooked, T
 ghost use Rattle.cv_event.specs.Laws.{ComposerIsOfCompose, CacheOfOneCanvas, CachedImagesArePresent};
 ghost use Rattle.cv_event.specs.Laws.{TaskIsOfTheFirst, TaskIsLeastSlot, ComposeIsDue};
 ghost use Rattle.cv_event.specs.TextLaws.{LineTellsEntry, LineTellsRefused, TextTellsJournal};
-ghost use Rattle.cv_event.specs.TextLaws.{TextAndEditsTellJournal};
+ghost use Rattle.cv_event.specs.TextLaws.{TextAndEditsTellJournal, LegalActsFit};
 ghost use Rattle.cv_event.specs.ViewLaws.{CachedViewsArePans, CachedLayersAreDistinct};
 ghost use Rattle.cv_event.specs.ShownLaws.{PreviewListsReady, PublishedIsLastFinished};
 ghost use Rattle.cv_event.specs.JobLaws.{AcceptedIsCounted, CanvasesStay, SlotsAreOfTheTaken, FreshIsOfEdits};
-ghost use Rattle.cv_event.specs.JobLaws.{DeliveryIsByLooker, FinishIsByComposer, TaskIsDue, LooksAreOfLiveJobs};
-ghost use Rattle.cv_event.specs.JobLaws.{ComposesAreOfLiveJobs};
+ghost use Rattle.cv_event.specs.JobLaws.{DeliveryIsByLooker, FinishIsByComposer, TaskIsDue};
+ghost use Rattle.cv_event.specs.JobLaws.{LooksAreOfLiveJobs, ComposesAreOfLiveJobs, JobsAreStarts};
+ghost use Rattle.cv_event.specs.JobLaws.{NoMemoryNeverStands};
 
 /// The present project is that of the opening behind all accepted edits.
 pub fn project_is_of_edits()
@@ -120,6 +121,11 @@ pub fn text_and_edits_tell_journal()
     ensures { TextAndEditsTellJournal }
 {}
 
+/// The numbers of a legal journal's acts are of their types.
+pub fn legal_acts_fit()
+    ensures { LegalActsFit }
+{}
+
 /// A preview lists the job's ready slots.
 pub fn preview_lists_ready()
     ensures { PreviewListsReady }
@@ -139,6 +145,16 @@ pub fn finish_is_by_composer()
 /// As many edits count as accepted as stand accepted in the journal.
 pub fn accepted_is_counted()
     ensures { AcceptedIsCounted }
+{}
+
+/// There are as many jobs as starts.
+pub fn jobs_are_starts()
+    ensures { JobsAreStarts }
+{}
+
+/// Want of memory is never the verdict of an edit that stands.
+pub fn no_memory_never_stands()
+    ensures { NoMemoryNeverStands }
 {}
 
 /// The canvases keep the sizes and capacities that they were opened with.
