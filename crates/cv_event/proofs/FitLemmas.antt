@@ -36,7 +36,7 @@ use Rattle.cv_event.specs.Histories.{taken, start_of, starts}
 use Rattle.cv_event.specs.Readings.{IsShort, HasTypes, FitsAct}
 use Rattle.cv_event.specs.JobLaws.{JobsAreStarts, IsJudged, NoMemoryNeverStands}
 use Rattle.cv_event.specs.ShownLaws.{published_on, is_on, finished_by}
-use Rattle.cv_event.specs.TextLaws.{FitsSpec, FitsOpening, LegalActsFit}
+use Rattle.cv_event.specs.TextLaws.{FitsSpec, FitsOpening, LegalActsFit, JobsHaveFewSlots}
 use Rattle.cv_event.proofs.SlotLemmas.{look_is, open_slot_is}
 use Rattle.cv_event.proofs.PresentLemmas.{all_map, all_change, all_more, all_at, neither}
 use Rattle.cv_event.proofs.TakenLemmas.{project_one}
@@ -423,15 +423,25 @@ none_published [] c t h = absurd cc
 none_published (spec ∷ specs) zero t h = absurd cc
 none_published (spec ∷ specs) (suc c) t h = none_published specs c t h
 
+fit_first : (o : Opening) → FitsOpening o → Fit o (begin o)
+fit_first o small = record {
+  layers = small.layers;
+  jobs = omega arith;
+  slots = tt;
+  specs = spec_first o.canvases;
+  published = λ c there t h. none_published o.canvases c t h;
+}
+
 pub legal_acts_fit : LegalActsFit
-legal_acts_fit o journal small legal =
-    acts_fit o (begin o) journal small (record {
-      layers = small.layers;
-      jobs = omega arith;
-      slots = tt;
-      specs = spec_first o.canvases;
-      published = λ c there t h. none_published o.canvases c t h;
-    }) legal
+legal_acts_fit o journal small legal = acts_fit o (begin o) journal small (fit_first o small) legal
+
+fit_more : (o : Opening) (s : State) (rest : List Entry) → Fit o s → LegalFrom s rest → Fit o (fold after s rest)
+fit_more o s [] fit legal = fit
+fit_more o s (entry ∷ rest) fit legal =
+    fit_more o (after s entry) rest (fit_one o s entry.caller entry.act fit legal.0) legal.1
+
+pub jobs_have_few_slots : JobsHaveFewSlots
+jobs_have_few_slots o journal small legal = (fit_more o (begin o) journal (fit_first o small) legal).slots
 
 -- ---- jobs and starts
 

@@ -9,6 +9,7 @@ use Rattle.cv_event.specs.declared.entry.Act.TheVariants as act
 use Rattle.cv_event.specs.declared.entry.Entry.{Entry}
 use Rattle.cv_event.specs.declared.refused.Refused.{Refused}
 use Rattle.cv_event.specs.Lines.{entry_line, refused_line, journal_text}
+use Rattle.cv_event.specs.States.{Job, replay}
 use Rattle.cv_event.specs.Legality.{IsLegal}
 use Rattle.cv_event.specs.Readings.{read_line, entry_in, refused_in, entry_with, IsShort, IsLong, FitsAct}
 use Rattle.cv_event.specs.Readings.{FitsEntry, FitsRefused}
@@ -44,6 +45,12 @@ abbrev pub LegalActsFit : Type 0
 LegalActsFit =
     (o : Opening) (journal : List Entry) → FitsOpening o → IsLegal o journal
     → AllByRecursion (λ (entry : Entry). FitsAct entry.act) journal
+
+-- a job of a legal journal has at most as many slots as a preview can tell
+abbrev pub JobsHaveFewSlots : Type 0
+JobsHaveFewSlots =
+    (o : Opening) (journal : List Entry) → FitsOpening o → IsLegal o journal
+    → AllByRecursion (λ (job : Job). length job.slots ≤ 32) (replay o journal).jobs
 
 -- ---- whole texts
 

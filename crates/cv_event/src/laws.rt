@@ -6,7 +6,7 @@ ghost use Rattle.cv_event.specs.Laws.{SupersededJobsAreVoid, SlotsAreAsLooked, T
 ghost use Rattle.cv_event.specs.Laws.{ComposerIsOfCompose, CacheOfOneCanvas, CachedImagesArePresent};
 ghost use Rattle.cv_event.specs.Laws.{TaskIsOfTheFirst, TaskIsLeastSlot, ComposeIsDue};
 ghost use Rattle.cv_event.specs.TextLaws.{LineTellsEntry, LineTellsRefused, TextTellsJournal};
-ghost use Rattle.cv_event.specs.TextLaws.{TextAndEditsTellJournal, LegalActsFit};
+ghost use Rattle.cv_event.specs.TextLaws.{TextAndEditsTellJournal, LegalActsFit, JobsHaveFewSlots};
 ghost use Rattle.cv_event.specs.ViewLaws.{CachedViewsArePans, CachedLayersAreDistinct};
 ghost use Rattle.cv_event.specs.ShownLaws.{PreviewListsReady, PublishedIsLastFinished};
 ghost use Rattle.cv_event.specs.JobLaws.{AcceptedIsCounted, CanvasesStay, SlotsAreOfTheTaken, FreshIsOfEdits};
@@ -124,6 +124,11 @@ pub fn text_and_edits_tell_journal()
 /// The numbers of a legal journal's acts are of their types.
 pub fn legal_acts_fit()
     ensures { LegalActsFit }
+{}
+
+/// A job of a legal journal has at most as many slots as a preview can tell.
+pub fn jobs_have_few_slots()
+    ensures { JobsHaveFewSlots }
 {}
 
 /// A preview lists the job's ready slots.
