@@ -5,7 +5,9 @@ use Rattle.std.specs.List.{AllZip, between, flat_map, range_with_len, filter_map
 use Rattle.std.proofs.lemmas.List.{take-take, take-append-drop, take_all, take-replicate, drop-replicate}
 use Rattle.std.proofs.lemmas.List.{replicate-append-replicate, length-append, length-map}
 use Rattle.std.proofs.lemmas.List.FromFn.{length-range_with_len}
-use Rattle.std.proofs.lemmas.Slice.{between_is}
+use Rattle.std.proofs.lemmas.List.{append_assoc, length-take-le, take_at}
+use Rattle.std.proofs.lemmas.List.Edits.{length-between}
+use Rattle.std.proofs.lemmas.Slice.{between_is, drop-append-drop}
 use Rattle.cv_model.specs.declared.blend.Blend.{Blend}
 use Rattle.cv_model.specs.declared.colour.Rgb.{Rgb}
 use Rattle.cv_model.specs.declared.colour.Rgba.{Rgba}
@@ -193,6 +195,26 @@ run_more xs start end order =
     ap (λ rest. take start xs ++ rest) (between_is xs start end)
     ∙ ap (λ front. front ++ drop start (take end xs)) (sym (take-take start end xs order))
     ∙ take-append-drop start (take end xs)
+
+-- pixels that are those wanted up to start, with the run behind them written, are those wanted up to its end
+pub written_more : {A : Type 0} (all old now run : List A) (start end : ℕ) → start ≤ end → end ≤ length all
+    → now ≡ take start all ++ drop start old → run ≡ between start end all
+    → take start now ++ run ++ drop (start + length run) now ≡ take end all ++ drop end old
+written_more all old now run start end order within now_is run_is =
+    let front : length (take start all) ≡ start = length-take-le start all (omega (arith, order, within)) in
+    let size : length run ≡ end - start = ap length run_is ∙ length-between all start end within in
+    let next : start + length run ≡ end = omega (arith, order, size) in
+    let first : take start now ≡ take start all =
+    ap (take start) now_is ∙ take_at (take start all) (drop start old) start front in
+    let behind : drop (start + length run) now ≡ drop end old =
+    ap (drop (start + length run)) now_is
+    ∙ drop-append-drop start old (take start all) (start + length run) (omega arith) front
+    ∙ ap (λ n. drop n old) next in
+    ap (λ (xs : List A). xs ++ run ++ drop (start + length run) now) first
+    ∙ ap (λ (xs : List A). take start all ++ run ++ xs) behind
+    ∙ ap (λ (xs : List A). take start all ++ xs ++ drop end old) run_is
+    ∙ sym (append_assoc (take start all) (between start end all) (drop end old))
+    ∙ ap (λ (xs : List A). xs ++ drop end old) (run_more all start end order)
 
 -- a composed picture has width times height pixels
 pub length_composed : (c : Composition) → length (composed c).pixels ≡ c.frame.width * c.frame.height
