@@ -12,3 +12,5 @@ pub mod ReadingLemmas
 pub mod TextLemmas
 pub mod ShownLemmas
 pub mod PanLemmas
+pub mod DueLemmas
+pub mod DistinctLemmas

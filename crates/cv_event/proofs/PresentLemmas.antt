@@ -241,10 +241,10 @@ parts_one s who (act.Cancel j) image h = refl
 parts_one s who (act.Preview j bits) image h = refl
 parts_one s who (act.Save c j) image h = refl
 
-project_fixed : IsFixed (λ (job : Job). job.project)
+pub project_fixed : IsFixed (λ (job : Job). job.project)
 project_fixed = record { slots = λ job slots. refl; composer = λ job o. refl; ended = λ job o. refl }
 
-view_fixed : IsFixed (λ (job : Job). job.view)
+pub view_fixed : IsFixed (λ (job : Job). job.view)
 view_fixed = record { slots = λ job slots. refl; composer = λ job o. refl; ended = λ job o. refl }
 
 painted_one : (s : State) (who : ℕ) (a : Act) (image : Cached) → Allows s who a → leaves s.project a image ≡ true →

@@ -579,6 +579,97 @@ pub half_pixel_hit : Refused two_layers (finished ++ View 0 (view_from 1000000) 
 unfolding pan_of
 half_pixel_hit h = absurd cc
 
+-- ---- a view between a job's start and a delivery
+
+zoomed_is_view : IsView zoomed
+zoomed_is_view = record { unit = omega arith; wide = omega arith; high = omega arith; left = (omega arith, omega arith); right = (omega arith, omega arith); top = (omega arith, omega arith); bottom = (omega arith, omega arith) }
+
+-- by one pixel: what is delivered is of an older view, so it is kept, and not stored
+abbrev panned_between : List Act
+panned_between = viewed ++ Look 1 0 false ∷ View 0 (view_from 2000000) ∷ []
+
+pub panned_between_legal : Legal two_layers panned_between (Deliver 1 0 Kept ∷ Look 1 1 false ∷ Deliver 1 1 Kept
+    ∷ Compose 1 ∷ Finish 1 ∷ Save 0 1 ∷ [])
+unfolding pan_of
+panned_between_legal = ((refl, refl), ((refl, refl), ((refl, refl), (refl, ((refl, refl), (refl, tt))))))
+
+pub panned_between_view : Legal two_layers viewed (Look 1 0 false ∷ View 0 (view_from 2000000) ∷ [])
+panned_between_view = ((refl, refl), ((panned_is_view, refl, refl), tt))
+
+pub panned_between_stored : Refused two_layers panned_between (Deliver 1 0 Stored)
+unfolding pan_of
+panned_between_stored h = absurd cc
+
+-- by a zoom too
+abbrev zoomed_between : List Act
+zoomed_between = viewed ++ Look 1 0 false ∷ View 0 zoomed ∷ []
+
+pub zoomed_between_legal : Legal two_layers viewed (Look 1 0 false ∷ View 0 zoomed ∷ Deliver 1 0 Kept
+    ∷ Look 1 1 false ∷ Deliver 1 1 Kept ∷ Compose 1 ∷ Finish 1 ∷ Save 0 1 ∷ [])
+unfolding pan_of
+zoomed_between_legal =
+    ((refl, refl), ((zoomed_is_view, refl, refl), ((refl, refl), ((refl, refl), ((refl, refl), (refl, ((refl, refl), (refl, tt))))))))
+
+pub zoomed_between_stored : Refused two_layers zoomed_between (Deliver 1 0 Stored)
+unfolding pan_of
+zoomed_between_stored h = absurd cc
+
+-- and back again: the job's view is the present one, so it is stored
+abbrev there_and_back : List Act
+there_and_back = zoomed_between ++ View 0 (view_from 0) ∷ []
+
+pub there_and_back_legal : Legal two_layers zoomed_between (View 0 (view_from 0) ∷ Deliver 1 0 Stored
+    ∷ Look 1 1 false ∷ Deliver 1 1 Stored ∷ [])
+unfolding pan_of
+there_and_back_legal = ((first_is_view, refl, refl), ((refl, refl), ((refl, refl), ((refl, refl), tt))))
+
+pub there_and_back_kept : Refused two_layers there_and_back (Deliver 1 0 Kept)
+unfolding pan_of
+there_and_back_kept h = absurd cc
+
+-- a look misses behind a pan, though its image is there at the job's view
+abbrev panned_before_look : List Act
+panned_before_look = finished ++ Start 0 2 ∷ View 0 (view_from 2000000) ∷ []
+
+pub panned_before_look_legal : Legal two_layers panned_before_look (Look 2 0 false ∷ Deliver 2 0 Kept
+    ∷ Look 2 1 false ∷ Deliver 2 1 Kept ∷ Compose 2 ∷ Finish 2 ∷ [])
+unfolding pan_of
+panned_before_look_legal = ((refl, refl), ((refl, refl), ((refl, refl), ((refl, refl), (refl, ((refl, refl), tt))))))
+
+pub panned_before_look_hit : Refused two_layers panned_before_look (Look 2 0 true)
+unfolding pan_of
+panned_before_look_hit h = absurd cc
+
+-- ---- an edit between a look and its delivery
+
+-- of the mask: kept; of a layer on which the image doesn't depend, or of a frame: stored
+abbrev edited_between : Edit → List Act
+edited_between e = viewed ++ Look 1 0 false ∷ accepted e ∷ []
+
+pub mask_between_legal : Legal two_layers viewed (Look 1 0 false ∷ accepted (RemoveFeature 3 1) ∷ Deliver 1 0 Kept
+    ∷ [])
+unfolding verdict is_over most_edits
+mask_between_legal = ((refl, refl), (refl, ((refl, refl), tt)))
+
+pub mask_between_stored : Refused two_layers (edited_between (RemoveFeature 3 1)) (Deliver 1 0 Stored)
+mask_between_stored h = absurd cc
+
+pub other_between_legal : Legal two_layers viewed (Look 1 0 false ∷ accepted (RemoveFeature 2 1)
+    ∷ Deliver 1 0 Stored ∷ Look 1 1 false ∷ Deliver 1 1 Kept ∷ [])
+unfolding verdict is_over most_edits
+other_between_legal = ((refl, refl), (refl, ((refl, refl), ((refl, refl), ((refl, refl), tt)))))
+
+pub other_between_kept : Refused two_layers (edited_between (RemoveFeature 2 1)) (Deliver 1 0 Kept)
+other_between_kept h = absurd cc
+
+pub frame_between_legal : Legal two_layers viewed (Look 1 0 false ∷ accepted (SetOpacity 1 128)
+    ∷ Deliver 1 0 Stored ∷ [])
+unfolding verdict is_over most_edits
+frame_between_legal = ((refl, refl), (refl, ((refl, refl), tt)))
+
+pub frame_between_kept : Refused two_layers (edited_between (SetOpacity 1 128)) (Deliver 1 0 Kept)
+frame_between_kept h = absurd cc
+
 -- a view has its canvas's size
 pub view_of_other_size : Refused two_layers [] (View 0 small_view)
 view_of_other_size h = absurd cc

@@ -7,8 +7,11 @@ ghost use Rattle.cv_event.specs.Laws.{ComposerIsOfCompose, CacheOfOneCanvas, Cac
 ghost use Rattle.cv_event.specs.Laws.{TaskIsOfTheFirst, TaskIsLeastSlot, ComposeIsDue};
 ghost use Rattle.cv_event.specs.TextLaws.{LineTellsEntry, LineTellsRefused, TextTellsJournal};
 ghost use Rattle.cv_event.specs.TextLaws.{TextAndEditsTellJournal};
-ghost use Rattle.cv_event.specs.ViewLaws.{CachedViewsArePans};
-ghost use Rattle.cv_event.specs.ShownLaws.{PreviewListsReady, MissedByLooker, PublishedIsLastFinished};
+ghost use Rattle.cv_event.specs.ViewLaws.{CachedViewsArePans, CachedLayersAreDistinct};
+ghost use Rattle.cv_event.specs.ShownLaws.{PreviewListsReady, PublishedIsLastFinished};
+ghost use Rattle.cv_event.specs.JobLaws.{AcceptedIsCounted, CanvasesStay, SlotsAreOfTheTaken, FreshIsOfEdits};
+ghost use Rattle.cv_event.specs.JobLaws.{DeliveryIsByLooker, FinishIsByComposer, TaskIsDue, LooksAreOfLiveJobs};
+ghost use Rattle.cv_event.specs.JobLaws.{ComposesAreOfLiveJobs};
 
 /// The present project is that of the opening behind all accepted edits.
 pub fn project_is_of_edits()
@@ -122,9 +125,52 @@ pub fn preview_lists_ready()
     ensures { PreviewListsReady }
 {}
 
-/// The caller that a slot waits for looked at it and missed it.
-pub fn missed_by_looker()
-    ensures { MissedByLooker }
+/// A slot waits for the delivery of a caller exactly where this caller looked at it and missed it, and no delivery
+/// of it stands.
+pub fn delivery_is_by_looker()
+    ensures { DeliveryIsByLooker }
+{}
+
+/// A job's picture is to be finished by exactly the caller whose compose stands.
+pub fn finish_is_by_composer()
+    ensures { FinishIsByComposer }
+{}
+
+/// As many edits count as accepted as stand accepted in the journal.
+pub fn accepted_is_counted()
+    ensures { AcceptedIsCounted }
+{}
+
+/// The canvases keep the sizes and capacities that they were opened with.
+pub fn canvases_stay()
+    ensures { CanvasesStay }
+{}
+
+/// A job is on its start's canvas, and its slots are those of the project and the view that it took.
+pub fn slots_are_of_the_taken()
+    ensures { SlotsAreOfTheTaken }
+{}
+
+/// A slot of a job without end is fresh where the job's view is its canvas's last one, and no edit behind the start
+/// touches one of its dependencies.
+pub fn fresh_is_of_edits()
+    ensures { FreshIsOfEdits }
+{}
+
+/// A task is due exactly where some job without end has a slot at which wasn't looked, or all slots ready and
+/// nobody who composes them.
+pub fn task_is_due()
+    ensures { TaskIsDue }
+{}
+
+/// Only open slots of jobs without end are looked at.
+pub fn looks_are_of_live_jobs()
+    ensures { LooksAreOfLiveJobs }
+{}
+
+/// Only jobs without end are composed, whose slots are all ready, and each once.
+pub fn composes_are_of_live_jobs()
+    ensures { ComposesAreOfLiveJobs }
 {}
 
 /// A canvas's published picture is of what the last job took that was finished on it.
@@ -135,4 +181,9 @@ pub fn published_is_last_finished()
 /// All images in a cache are at pans of the canvas's present view.
 pub fn cached_views_are_pans()
     ensures { CachedViewsArePans }
+{}
+
+/// A cache has at most one image of each layer, and no more than its canvas's capacity.
+pub fn cached_layers_are_distinct()
+    ensures { CachedLayersAreDistinct }
 {}

@@ -1,8 +1,9 @@
 //! The reader of scripts.
 //!
 //! Contract: a script is read exactly where each of its lines is in the grammar, as the list of its commands
-//! with their lines; else the first line that isn't is answered. Definitions: `Words`, the words of a line;
-//! `Kinds` and `Styles`, what a word says; `Table`, the commands, one row each; `Scripts`, lines and scripts.
+//! with their lines; else the first line that isn't is answered. Definitions: `Spelling`, how words are spelt
+//! in a line, and `Words`, the same as a machine; `Kinds` and `Styles`, what a word says; `Table`, the
+//! commands, one row each; `Scripts`, lines and scripts.
 //! Memory is taken for the words of a line and for the commands; no handle is needed.
 #![tactic(auto)]
 
@@ -14,6 +15,7 @@ mod commands;
 mod edits;
 mod error;
 mod kinds;
+mod laws;
 mod line;
 mod names;
 mod place;
@@ -26,6 +28,7 @@ use bstr::ByteSlice;
 use cv_model::Sequence;
 use error::Refusal;
 pub use error::ScriptError;
+pub use laws::words_are_spelt;
 use line::{read_line, without_mark};
 pub use script::{Command, Numbered, Script};
 use std::alloc::Global;
