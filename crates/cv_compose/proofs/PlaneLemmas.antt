@@ -3,7 +3,6 @@ use Rattle.std.proofs.Common.{◌≡◌, ℕ, ◌+◌, ◌<◌, List, ◌∷◌,
 use Rattle.std.proofs.Common.{◌∙◌, refl, append_assoc, drop-cons, add-one}
 use Rattle.std.proofs.Common.{map}
 use Rattle.std.proofs.lemmas.List.{take_more, take_more_set, drop-set-lt, map-append}
-use Rattle.std.proofs.lemmas.Grind.{common_steps}
 use Rattle.cv_model.specs.declared.blend.Blend.{Blend}
 use Rattle.cv_model.specs.declared.blend.Blend.TheVariants.{Normal, ColorDodge, ColorBurn}
 use Rattle.cv_model.specs.Blends.{channel_merged, mixed, color_dodge, color_burn}

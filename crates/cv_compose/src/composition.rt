@@ -151,7 +151,7 @@ fn write_picture(picture: &mut Picture, input: &ComposeInput, tables: &[Table])
     requires height { picture.now.height ≡ input.now.frame.height }
     ensures { picture.new ≡ composed input.now }
 {
-    let size = picture.width() as usize * picture.height() as usize;
+    let size = picture.pixels().len() as usize;
     let mut start = 0;
     while start < size {
         let end = start.saturating_add(RUN).min(size);
