@@ -4,7 +4,7 @@ use Rattle.cv_model.specs.Blends.{merge}
 use Rattle.cv_model.specs.Styles.{symbol_of}
 use Rattle.cv_model.specs.Texts.{feature_symbol}
 use Rattle.cv_model.specs.Pictures.{pixel, colour_of}
-use Rattle.cv_paint.proofs.plain.colour.Goals as goal
+use Rattle.cv_paint.proofs.over_white.colour.Goals as goal
 
 -- the one layer's pixel, merged onto white
 pub returns : goal.returns

@@ -4,7 +4,7 @@ use Rattle.std.specs.List.{flat_map}
 use Rattle.cv_model.specs.declared.feature.Feature.{Feature}
 use Rattle.cv_model.specs.Colours.{laid, laid_on}
 use Rattle.cv_model.specs.Pictures.{strokes}
-use Rattle.cv_paint.proofs.plain.layer_pixel.Given as goal
+use Rattle.cv_paint.proofs.over_white.layer_pixel.Given as goal
 
 abbrev pub invariant-loop-feature : goal.invariant-loop-feature
 invariant-loop-feature l =

@@ -4,7 +4,7 @@ use Rattle.cv_model.specs.declared.colour.Rgb.{Rgb}
 use Rattle.cv_model.specs.Paintings.{FrameParts}
 use Rattle.cv_compose.specs.Inputs.{IsSlotPainting}
 use Rattle.cv_compose.proofs.CompositionLemmas.{run_composed, background_run, has_pixels}
-use Rattle.cv_compose.proofs.composition.put_run.Goals as goal
+use Rattle.cv_compose.proofs.composition.set_run.Goals as goal
 
 pub merge_slots-requires-clause-places : goal.merge_slots-requires-clause-places
 merge_slots-requires-clause-places c =
@@ -42,4 +42,4 @@ returns c =
     let below = background_run input.frame.background input.frame.width input.frame.height c.args.start c.args.end
     c.requires.within c.fill.new.plane c.fill-2.new.plane c.fill-3.new.plane red green blue in
     let merged = rw (slots_are, layers_are) at c.merge_slots.ensures in
-    rw (merged ∙ run_composed input kept c.args.start c.args.end _ below) at c.put_colours.ensures
+    rw (merged ∙ run_composed input kept c.args.start c.args.end _ below) at c.set_colours.ensures

@@ -1,5 +1,5 @@
 use Rattle.cv_model.specs.Rasters.{pixels_of}
-use Rattle.cv_paint.proofs.plain.quick.Goals as goal
+use Rattle.cv_paint.proofs.over_white.quick.Goals as goal
 
 -- no row has no pixels
 pub loop-j-init : goal.loop-j-init
