@@ -126,8 +126,14 @@ fn whole(view: &View) -> Area
     ensures { IsArea view.now.w view.now.h result }
 {
     Area {
-        columns: Span { from: 0, end: view.w },
-        rows: Span { from: 0, end: view.h },
+        columns: Span {
+            from: 0,
+            end: view.w,
+        },
+        rows: Span {
+            from: 0,
+            end: view.h,
+        },
     }
 }
 
@@ -136,8 +142,14 @@ fn part(view: &View) -> Area
     ensures { IsArea view.now.w view.now.h result }
 {
     Area {
-        columns: Span { from: 1, end: view.w },
-        rows: Span { from: 1, end: view.h },
+        columns: Span {
+            from: 1,
+            end: view.w,
+        },
+        rows: Span {
+            from: 1,
+            end: view.h,
+        },
     }
 }
 
