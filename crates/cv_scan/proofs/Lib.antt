@@ -3,3 +3,4 @@ pub mod ReachLemmas
 pub mod RunLemmas
 pub mod MarkLemmas
 pub mod CrossingLemmas
+pub mod PlaneLemmas

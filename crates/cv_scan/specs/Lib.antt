@@ -3,3 +3,4 @@ pub mod Reaches
 pub mod Runs
 pub mod Marks
 pub mod Fills
+pub mod Planes

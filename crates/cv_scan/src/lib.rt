@@ -11,6 +11,7 @@
 mod crossings;
 mod fills;
 mod marks;
+mod planes;
 mod reaches;
 mod row;
 mod runs;

@@ -9,6 +9,7 @@ ghost use Rattle.cv_geom.specs.Runs.{Adds, IsArea, rows_of};
 ghost use Rattle.cv_scan.specs.Marks.{AddsMarks, CrossesRows, IsBetween, MarkIn, marks_right, run_between, runs_from};
 
 use crate::crossings::{column_of_crossing, columns_between, row_of};
+use crate::planes::{put_runs_by_bits, size};
 use cv_geom::{Area, Multiples, Run, Runs, Steps, doubled_sides};
 use cv_model::{NoMemory, Point, Polygon, Span, View};
 use std::sync::ledger::Ledger;
@@ -167,7 +168,29 @@ fn put_rows<L: Ledger>(
 }
 
 /// Puts the runs that lie left of an odd number of marks behind others.
-pub fn put_runs(marks: &mut Vec<Mark>, area: Area, into: &mut Runs) -> Result<(), NoMemory>
+///
+/// Many marks are brought into order by a bit for each pixel, few are sorted.
+pub fn put_runs(
+    marks: &mut Vec<Mark>,
+    bits: &mut Vec<u64>,
+    area: Area,
+    into: &mut Runs,
+) -> Result<(), NoMemory>
+    requires columns { area.columns.from ≤ area.columns.end }
+    requires rows { area.rows.from ≤ area.rows.end }
+    requires marks { All (MarkIn area) marks.old.items }
+    ensures { OnOk result
+        (Adds (λ i j. marks_right i j marks.old.items % 2 == 1) area into.old into.new) }
+{
+    if size(area) / 16 < marks.len() {
+        put_runs_by_bits(marks, bits, area, into)
+    } else {
+        put_sorted_runs(marks, area, into)
+    }
+}
+
+/// Puts the runs that lie left of an odd number of marks behind others, by sorting them.
+fn put_sorted_runs(marks: &mut Vec<Mark>, area: Area, into: &mut Runs) -> Result<(), NoMemory>
     requires { All (MarkIn area) marks.old.items }
     ensures { OnOk result
         (Adds (λ i j. marks_right i j marks.old.items % 2 == 1) area into.old into.new) }
@@ -179,7 +202,7 @@ pub fn put_runs(marks: &mut Vec<Mark>, area: Area, into: &mut Runs) -> Result<()
 }
 
 /// Puts the runs between descending marks behind others.
-fn put_pairs(marks: &[Mark], from: u32, into: &mut Runs) -> Result<(), NoMemory>
+pub fn put_pairs(marks: &[Mark], from: u32, into: &mut Runs) -> Result<(), NoMemory>
     ensures { OnOk result (into.new ≡ into.old ++ runs_from from None marks.now) }
 {
     let mut last: Option<Mark> = None;

@@ -2,7 +2,7 @@ use Rattle.std.proofs.Common.{◌∙◌, ap, ◌++◌, None, rules}
 use Rattle.std.proofs.lemmas.List.Sorted.{answers_always}
 use Rattle.cv_scan.specs.Marks.{runs_from}
 use Rattle.cv_scan.proofs.MarkLemmas.{place_of, reversed-added}
-use Rattle.cv_scan.proofs.marks.put_runs.Goals as goal
+use Rattle.cv_scan.proofs.marks.put_sorted_runs.Goals as goal
 
 pub returns : goal.returns
 returns c =
