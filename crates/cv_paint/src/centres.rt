@@ -79,6 +79,13 @@ fn is_feature_at(row: &FeatureRow, p: Point2) -> bool
     }
 }
 
+/// Whether some polygon of some of these features has a position inside.
+fn is_some_at(rows: &[FeatureRow], p: Point2) -> bool
+    ensures { result ≡ list_any (is_feature_at p) rows.now }
+{
+    rows.iter().any(|row| is_feature_at(row, p))
+}
+
 /// Whether some polygon of a table's features has a position inside.
 fn is_table_at(table: &Table, p: Point2) -> bool
     ensures { result ≡ list_any (is_feature_at p) table.now.features }
@@ -87,7 +94,7 @@ fn is_table_at(table: &Table, p: Point2) -> bool
     let mut at = 0;
     while at < rows.len() {
         let run = rows.run_from(at);
-        if run.iter().any(|row| is_feature_at(row, p)) {
+        if is_some_at(run, p) {
             return true;
         }
         at += run.len() as u64;
