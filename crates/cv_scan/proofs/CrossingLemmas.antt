@@ -1,5 +1,5 @@
 -- Where edges cross the heights of rows: between the columns of their ends, and at no height beside their rows.
-use Rattle.std.proofs.Common.{◌≡◌, ◌∙◌, sym, ap, refl, ℕ, ◌+◌, ◌<◌, ◌≤◌, nat_lt, min, max, Bool, true, false, not, if◌then◌else◌, ℤ, pos, negsuc, ◌+ℤ◌, ◌-ℤ◌, ◌*ℤ◌, ◌≤ℤ◌, ◌<ℤ◌, int_le, int_lt, arith}
+use Rattle.std.proofs.Common.{◌≡◌, ◌∙◌, sym, ap, refl, ℕ, ◌+◌, ◌<◌, ◌≤◌, nat_lt, min, max, Bool, true, false, not, ℤ, pos, negsuc, ◌+ℤ◌, ◌-ℤ◌, ◌*ℤ◌, ◌≤ℤ◌, ◌<ℤ◌, int_le, int_lt, arith}
 use borrow.Author.Differences.{up, down, product_is}
 use Rattle.std.proofs.Math.Nat.{mul-le-mul_left}
 use Rattle.std.proofs.lemmas.Int.{ints}
@@ -12,7 +12,6 @@ use Rattle.cv_geom.specs.declared.runs.Area.{Area}
 use Rattle.cv_geom.specs.Falls.{FallsAt}
 use Rattle.cv_geom.proofs.ProductLemmas.{mul-le-mulZ, add-mul}
 use Rattle.cv_scan.specs.Marks.{IsBetween, CrossesRows}
-use Rattle.cv_scan.proofs.MarkLemmas.{to_count}
 
 -- as many times the lesser of two numbers, and as many negative times
 mul-left-le : (d x y : ℤ) → x ≤ℤ y → pos 0 ≤ℤ d → (d *ℤ x) ≤ℤ (d *ℤ y)
@@ -186,80 +185,10 @@ ends-between v a b columns k n of_a of_b =
 
 -- ---- the rows of an edge
 
--- the rows of two points, the lesser first
-pub ends-rows :
-    (v : PixelGrid) (a b : Position) (area : Area) (k n : ℕ)
-    → FallsAt (λ j. is_low (centre_of v 0 j) (doubled a)) area.rows.from area.rows.end k
-    → FallsAt (λ j. is_low (centre_of v 0 j) (doubled b)) area.rows.from area.rows.end n
-    → CrossesRows v a b area (record { from = min n k; end = max n k })
-ends-rows v a b area k n of_a of_b =
-    let low_a = of_a.low_in in
-    let low_b = of_b.low_in in
-    let high_a = of_a.high_in in
-    let high_b = of_b.high_in in
-    record {
-      north = omega arith;
-      order = omega arith;
-      south = omega arith;
-      apart = λ j from below.
-          let one : nat_lt j k ≡ not (nat_lt j n) = apart j (nat_lt j k) (nat_lt j n) refl refl from below in
-          of_a.falls j (omega arith) (omega arith) ∙ one ∙ ap not (sym (of_b.falls j (omega arith) (omega arith)));
-      before = λ j from below.
-          let here : nat_lt j k ≡ true = grind (arith, nat_tests) in
-          let there : nat_lt j n ≡ true = grind (arith, nat_tests) in
-          of_a.falls j from (omega arith) ∙ here ∙ sym there ∙ sym (of_b.falls j from (omega arith));
-      behind = λ j from below.
-          let here : nat_lt j k ≡ false = grind (arith, nat_tests) in
-          let there : nat_lt j n ≡ false = grind (arith, nat_tests) in
-          of_a.falls j (omega arith) below ∙ here ∙ sym there ∙ sym (of_b.falls j (omega arith) below);
-    }
-  where
-    apart :
-        (j : ℕ) (s t : Bool) → nat_lt j k ≡ s → nat_lt j n ≡ t → min n k ≤ j → j < max n k → s ≡ not t
-    apart j true true here there from below = absurd (grind (arith, nat_tests))
-    apart j true false here there from below = refl
-    apart j false true here there from below = refl
-    apart j false false here there from below = absurd (grind (arith, nat_tests))
-
--- they are those of the reverse edge
-pub reverse-rows :
-    (v : PixelGrid) (a b : Position) (area : Area) (rows : Span) → CrossesRows v a b area rows
-    → CrossesRows v b a area rows
-reverse-rows v a b area rows is = record {
-  north = is.north;
-  order = is.order;
-  south = is.south;
-  apart = λ j from below. turned _ _ (is.apart j from below);
-  before = λ j from below. sym (is.before j from below);
-  behind = λ j from below. sym (is.behind j from below);
-}
-  where
-    turned : (s t : Bool) → s ≡ not t → t ≡ not s
-    turned true true e = cc
-    turned true false e = refl
-    turned false true e = refl
-    turned false false e = cc
-
--- where exactly the lower end is low at each of them
+-- exactly the lower end is low at each of them
 pub rows-low :
     (v : PixelGrid) (low high : Position) (area : Area) (rows : Span) (j : ℕ) → CrossesRows v low high area rows
     → low.y ≤ℤ high.y → rows.from ≤ j → j < rows.end
     → (is_low (centre_of v 0 j) (doubled low) ≡ true) × (is_low (centre_of v 0 j) (doubled high) ≡ false)
 rows-low v low high area rows j is rise from below =
     ends-apart (centre_of v 0 j) (doubled low) (doubled high) (omega (arith, ints)) (is.apart j from below)
-
--- what was marked of an edge was marked of its reverse
-crossed-alike : (p a b : Position) → crosses p a b ≡ crosses p b a
-crossed-alike p a b = by (is_low p a) (is_low p b)
-  where
-    by :
-        (s t : Bool)
-        → (if s then (if t then false else passes_right p a b) else (if t then passes_right p b a else false))
-        ≡ (if t then (if s then false else passes_right p b a) else (if s then passes_right p a b else false))
-    by true true = refl
-    by true false = refl
-    by false true = refl
-    by false false = refl
-
-pub reverse-crossed : (p a b : Position) → to_count (is_crossed p (b, a)) ≡ to_count (is_crossed p (a, b))
-reverse-crossed p a b = ap to_count (crossed-alike p (doubled b) (doubled a))

@@ -185,15 +185,6 @@ marks-all v a b area row old new level told = record {
         let no = level-crossed v i j a b (level j (grind (arith, nat_tests)) south) in
         sym (ap to_count no)
 
--- marks of one count are those of an equal one
-pub marks-same :
-    (crossed same : ℕ → ℕ → ℕ) (area : Area) (old new : List Mark) → ((i j : ℕ) → crossed i j ≡ same i j)
-    → AddsMarks crossed area old new → AddsMarks same area old new
-marks-same crossed same area old new is told = record {
-  within = told.within;
-  counted = λ i j here. told.counted i j here ∙ ap (λ n. marks_right i j old + n) (is i j);
-}
-
 -- ---- the runs between descending marks
 
 -- no pixel lies left of marks that lie before it

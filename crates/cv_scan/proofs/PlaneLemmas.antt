@@ -1,14 +1,14 @@
 -- Planes: what a bit that changes tells of each pixel of its row, and the marks that the set bits stand for.
-use Rattle.std.proofs.Common.{◌≡◌, ◌∙◌, sym, ap, refl, ℕ, zero, suc, ◌+◌, ◌-◌, ◌*◌, ◌/◌, ◌%◌, ◌^◌, ◌<◌, ◌≤◌, nat_lt, nat_le, ◌==◌, ◌⊎◌, inl, inr, Bool, true, false, cond, ◌&&◌, ◌||◌, if◌then◌else◌, List, [], ◌∷◌, ◌++◌, length, get_or, replicate, None, arith}
+use Rattle.std.proofs.Common.{◌≡◌, ◌∙◌, sym, ap, refl, ℕ, zero, suc, ◌+◌, ◌-◌, ◌*◌, ◌/◌, ◌%◌, ◌^◌, ◌<◌, ◌≤◌, nat_lt, nat_le, ◌==◌, ◌⊎◌, inl, inr, Bool, true, false, cond, ◌&&◌, ◌||◌, if◌then◌else◌, List, [], ◌∷◌, ◌++◌, length, get_or, None, arith}
 use Rattle.std.specs.List.{All}
 use Rattle.std.specs.Int.{bit_at}
 use Rattle.std.specs.Int.Bits.{bit_xor}
 use Rattle.std.proofs.Math.Nat.{mul-le-mul_right}
 use Rattle.std.proofs.lemmas.Bool.Decides.{nat_tests}
-use Rattle.std.proofs.lemmas.List.{append_assoc, get_or-set_same, get_or-set_other, get_or-replicate, length-set}
+use Rattle.std.proofs.lemmas.List.{append_assoc, get_or-set_same, get_or-set_other, length-set}
 use Rattle.std.proofs.lemmas.List.Elements.{All-nil, All-cons}
 use Rattle.std.proofs.lemmas.List.Sorted.{IsPermutation-refl}
-use Rattle.std.proofs.lemmas.Nat.Bits.{bit_at_xor, bit_at-pow_same, bit_at-pow_other, bit_at-lt, bit_at-zero}
+use Rattle.std.proofs.lemmas.Nat.Bits.{bit_at_xor, bit_at-pow_same, bit_at-pow_other, bit_at-lt}
 use Rattle.cv_geom.specs.declared.runs.Run.{Run}
 use Rattle.cv_geom.specs.declared.runs.Area.{Area}
 use Rattle.cv_geom.specs.Runs.{is_on_any, IsIn, Adds}
@@ -273,19 +273,6 @@ clear-none words area row x (suc n) clear =
     pick : (s : Bool) (bit rest : ℕ) → bit ≡ 0 → rest ≡ 0 → (if s then bit else 0) + rest ≡ 0
     pick true bit rest none later = omega arith
     pick false bit rest none later = omega arith
-
-pub zeros-clear : (n place : ℕ) → bit_of (replicate n 0) place ≡ 0
-zeros-clear n place =
-    ap (λ w. bit_at w (place % 64)) (zero-word (place / 64) (nat_lt (place / 64) n) refl) ∙ bit_at-zero (place % 64)
-  where
-    zero-word : (k : ℕ) (t : Bool) → nat_lt k n ≡ t → ◌≡◌ {A = ℕ} (get_or (replicate n 0) k 0) 0
-    zero-word k true less = get_or-replicate n k 0 0 (grind (arith, nat_tests))
-    zero-word k false less = zero-behind n k
-      where
-        zero-behind : (m k : ℕ) → ◌≡◌ {A = ℕ} (get_or (replicate m 0) k 0) 0
-        zero-behind zero k = refl
-        zero-behind (suc m) zero = refl
-        zero-behind (suc m) (suc k) = zero-behind m k
 
 -- ---- the marks that set bits stand for
 
