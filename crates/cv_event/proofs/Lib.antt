@@ -16,3 +16,4 @@ pub mod PanLemmas
 pub mod DueLemmas
 pub mod DistinctLemmas
 pub mod FitLemmas
+pub mod NumberLemmas

@@ -12,6 +12,7 @@ ghost use Rattle.cv_event.specs.ShownLaws.{PreviewListsReady, PublishedIsLastFin
 ghost use Rattle.cv_event.specs.JobLaws.{AcceptedIsCounted, CanvasesStay, SlotsAreOfTheTaken, FreshIsOfEdits};
 ghost use Rattle.cv_event.specs.JobLaws.{DeliveryIsByLooker, FinishIsByComposer, TaskIsDue};
 ghost use Rattle.cv_event.specs.JobLaws.{LooksAreOfLiveJobs, ComposesAreOfLiveJobs, JobsAreStarts};
+ghost use Rattle.cv_event.specs.JobLaws.{StartedJobsAreThere};
 ghost use Rattle.cv_event.specs.JobLaws.{NoMemoryNeverStands};
 
 /// The present project is that of the opening behind all accepted edits.
@@ -155,9 +156,14 @@ pub fn accepted_is_counted()
     ensures { AcceptedIsCounted }
 {}
 
-/// There are as many jobs as starts.
+/// Starts number their jobs 1, 2, .., and there are as many jobs as starts.
 pub fn jobs_are_starts()
     ensures { JobsAreStarts }
+{}
+
+/// A job of a number is there exactly where a start has the number.
+pub fn started_jobs_are_there()
+    ensures { StartedJobsAreThere }
 {}
 
 /// Want of memory is never the verdict of an edit that stands.
