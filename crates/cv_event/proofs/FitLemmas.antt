@@ -4,7 +4,7 @@ use Rattle.std.proofs.Common.{List, [], ◌∷◌, ◌++◌, length, map, filter
 use Rattle.std.proofs.Common.{slice_get, option_map, option_and_then, IsSomeAnd, fold, arith, if◌then◌else◌, nat_lt, nat_le}
 use Rattle.std.proofs.Common.{ℤ, pos, negsuc, ◌+ℤ◌, ◌*ℤ◌, ◌≤ℤ◌}
 use Rattle.std.specs.Int.Signed.{mag}
-use Rattle.std.specs.List.{AllByRecursion, cons_option}
+use Rattle.std.specs.List.{AllByRecursion}
 use Rattle.std.specs.Option.{option_or}
 use Rattle.std.proofs.lemmas.Bool.Decides.{nat_tests}
 use Rattle.std.proofs.lemmas.Bool.{false≢true}
@@ -30,11 +30,11 @@ use Rattle.cv_event.specs.declared.slot.Standing.{Standing}
 use Rattle.cv_event.specs.declared.slot.Standing.TheVariants.{Missed}
 use Rattle.cv_event.specs.States.{Taken, Job, Canvas, State, change_at, job_in, change_job, view_on, slot_edited}
 use Rattle.cv_event.specs.States.{job_edited, with_end, cancelled_on, new_slot, new_job, started, looked, delivered}
-use Rattle.cv_event.specs.States.{slot_stands, stands_at, composed_by, edit_made, did, after, new_canvas, begin}
+use Rattle.cv_event.specs.States.{slot_stands, stands_at, composed_by, did, after, new_canvas, begin}
 use Rattle.cv_event.specs.Legality.{is_ready, ready_bits, fate_of, Allows, LegalFrom}
-use Rattle.cv_event.specs.Histories.{taken, start_of, starts}
+use Rattle.cv_event.specs.Histories.{taken}
 use Rattle.cv_event.specs.Readings.{IsShort, HasTypes, FitsAct}
-use Rattle.cv_event.specs.JobLaws.{JobsAreStarts, IsJudged, NoMemoryNeverStands}
+use Rattle.cv_event.specs.JobLaws.{IsJudged, NoMemoryNeverStands}
 use Rattle.cv_event.specs.ShownLaws.{published_on, is_on, finished_by}
 use Rattle.cv_event.specs.TextLaws.{FitsSpec, FitsOpening, LegalActsFit, JobsHaveFewSlots}
 use Rattle.cv_event.proofs.SlotLemmas.{look_is, open_slot_is}
@@ -82,11 +82,11 @@ length_change i change [] = refl
 length_change zero change (x ∷ xs) = refl
 length_change (suc i) change (x ∷ xs) = ap suc (length_change i change xs)
 
-length_job : (j : ℕ) (change : Job → Job) (jobs : List Job) → length (change_job j change jobs) ≡ length jobs
+pub length_job : (j : ℕ) (change : Job → Job) (jobs : List Job) → length (change_job j change jobs) ≡ length jobs
 length_job zero change jobs = refl
 length_job (suc before) change jobs = length_change before change jobs
 
-length_one : {A : Type 0} (xs : List A) (x : A) → length (xs ++ x ∷ []) ≡ suc (length xs)
+pub length_one : {A : Type 0} (xs : List A) (x : A) → length (xs ++ x ∷ []) ≡ suc (length xs)
 length_one [] x = refl
 length_one (y ∷ xs) x = ap suc (length_one xs x)
 
@@ -442,46 +442,6 @@ fit_more o s (entry ∷ rest) fit legal =
 
 pub jobs_have_few_slots : JobsHaveFewSlots
 jobs_have_few_slots o journal small legal = (fit_more o (begin o) journal (fit_first o small) legal).slots
-
--- ---- jobs and starts
-
-longer : (s : State) (c j : ℕ) (v : Option PixelGrid) (xs : List ℕ) → is_some v ≡ true
-    → length xs + length (started c v s).jobs ≡ length (j ∷ xs) + length s.jobs
-longer s c j None xs there = absurd (false≢true there)
-longer s c j (Some view) xs there =
-    let one : length (started c (Some view) s).jobs ≡ suc (length s.jobs) =
-    length_one (map (cancelled_on c) s.jobs) (new_job c s.project view) ∙ ap suc (length-map s.jobs (cancelled_on c)) in
-    let other : length (j ∷ xs) ≡ suc (length xs) = refl in
-    omega (arith, one, other)
-
-starts_made : (s : State) (e : Edit) (v : Option EditError) → length (edit_made e v s).jobs ≡ length s.jobs
-starts_made s e None = length-map s.jobs (job_edited e)
-starts_made s e (Some error) = refl
-
-starts_one : (s : State) (who : ℕ) (a : Act) (xs : List ℕ) → Allows s who a
-    → length xs + length (did s who a).jobs ≡ length (cons_option (start_of a) xs) + length s.jobs
-starts_one s who (act.Edit e v) xs allowed = ap (λ n. length xs + n) (starts_made s e v)
-starts_one s who (act.View c view) xs allowed = refl
-starts_one s who (act.Start c j) xs allowed = longer s c j (view_on s c) xs allowed.0
-starts_one s who (act.Look j at hit) xs allowed =
-    ap (λ n. length xs + n) (length_job j (stands_at at (looked who hit)) s.jobs)
-starts_one s who (act.Deliver j at fate) xs allowed =
-    ap (λ n. length xs + n) (length_job j (stands_at at (delivered fate)) s.jobs)
-starts_one s who (act.Compose j) xs allowed = ap (λ n. length xs + n) (length_job j (composed_by who) s.jobs)
-starts_one s who (act.Finish j) xs allowed = ap (λ n. length xs + n) (length_job j (with_end Finished) s.jobs)
-starts_one s who (act.Fail j) xs allowed = ap (λ n. length xs + n) (length_job j (with_end NoMemory) s.jobs)
-starts_one s who (act.Cancel j) xs allowed = ap (λ n. length xs + n) (length_job j (with_end Cancelled) s.jobs)
-starts_one s who (act.Preview j bits) xs allowed = refl
-starts_one s who (act.Save c j) xs allowed = refl
-
-starts_more : (s : State) (rest : List Entry) → LegalFrom s rest
-    → length (fold after s rest).jobs ≡ length (starts rest) + length s.jobs
-starts_more s [] legal = omega arith
-starts_more s (entry ∷ rest) legal =
-    starts_more (after s entry) rest legal.1 ∙ starts_one s entry.caller entry.act (starts rest) legal.0
-
-pub jobs_are_starts : JobsAreStarts
-jobs_are_starts o journal legal = starts_more (begin o) journal legal ∙ omega arith
 
 -- ---- verdicts
 

@@ -1,8 +1,8 @@
 -- What jobs show, whose their tasks are, and when one is due: laws, each the clause of a function of its
 -- name.
 use Rattle.std.specs.Prelude.{◌≡◌, ◌↔◌, ℕ, ◌==◌, Bool, true, false, not, ◌&&◌, ◌||◌, List, length, map}
-use Rattle.std.specs.Prelude.{slice_get, Some, None, option_map, is_some, is_none}
-use Rattle.std.specs.List.{list_any, AllByRecursion}
+use Rattle.std.specs.Prelude.{slice_get, Some, None, option_map, is_some, is_none, nat_eq}
+use Rattle.std.specs.List.{list_any, AllByRecursion, range_with_len}
 use Rattle.std.specs.Option.{option_map_or}
 use Rattle.cv_model.specs.declared.edit.EditError.TheVariants.{NoMemory}
 use Rattle.cv_model.specs.Layers.{Layer, Opening, deps, slots}
@@ -25,11 +25,17 @@ abbrev pub AcceptedIsCounted : Type 0
 AcceptedIsCounted =
     (o : Opening) (journal : List Entry) → (replay o journal).accepted ≡ length (edits journal)
 
--- jobs are numbered by their starts
+-- starts number their jobs 1, 2, .., and there are as many jobs as starts
 abbrev pub JobsAreStarts : Type 0
 JobsAreStarts =
     (o : Opening) (journal : List Entry) → IsLegal o journal
-    → length (replay o journal).jobs ≡ length (starts journal)
+    → starts journal ≡ range_with_len 1 (length (replay o journal).jobs)
+
+-- a job of a number is there exactly where a start has the number
+abbrev pub StartedJobsAreThere : Type 0
+StartedJobsAreThere =
+    (o : Opening) (journal : List Entry) (j : ℕ) → IsLegal o journal
+    → is_some (job_in (replay o journal).jobs j) ≡ list_any (nat_eq j) (starts journal)
 
 -- an act's verdict, if it is an edit, isn't want of memory
 abbrev pub IsJudged : Act → Type 0

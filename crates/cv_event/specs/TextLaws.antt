@@ -77,7 +77,8 @@ TextTellsJournal =
     → journal_text xs p k ≡ journal_text ys q l
     → ((e : Edit) → map (entry_with e) xs ≡ map (entry_with e) ys) × (p ≡ q) × (k ≡ l)
 
--- and, with the list of the edits, the journal
+-- and, with the list of the edits, the journal; the numbers must be of their types, since a preview's slots
+-- are a number of bits of which a line tells 32: those of a legal journal's acts are (`LegalActsFit`)
 abbrev pub TextAndEditsTellJournal : Type 0
 TextAndEditsTellJournal =
     (xs ys : List Entry) (p q : List Refused) (k l : ℕ) → FitsText xs p k → FitsText ys q l

@@ -11,11 +11,11 @@ use Rattle.cv_event.specs.States.{Cached, view_on, replay}
 use Rattle.cv_event.specs.Legality.{IsLegal}
 use Rattle.cv_event.specs.Histories.{cached}
 
--- the canvas has a view, which lies by whole pixels from the image's
+-- the canvas has a view, which is a pan of the image's
 abbrev pub IsPannedTo : Option PixelGrid → Cached → Type 0
 IsPannedTo view image = IsSomeAnd view (λ v. is_pan image.view v ≡ true)
 
--- all images in a cache are at pans of the canvas's present view
+-- a canvas's present view is a pan of the view of each image in its cache
 abbrev pub CachedViewsArePans : Type 0
 CachedViewsArePans =
     (o : Opening) (journal : List Entry) (c : ℕ) → IsLegal o journal

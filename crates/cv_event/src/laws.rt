@@ -1,4 +1,4 @@
-//! Laws of legal journals, each the clause of a call that does nothing.
+//! Laws of legal journals, of any state and of texts, each the clause of a call that does nothing.
 
 ghost use Rattle.cv_event.specs.Laws.{ProjectIsOfEdits, ViewIsLast, JobTakesThePresent, ImageIsOfTheTaken};
 ghost use Rattle.cv_event.specs.Laws.{EndIsFirst, EndsStay, EndedJobsAreVoid, CancelledJobsAreVoid};
@@ -12,6 +12,7 @@ ghost use Rattle.cv_event.specs.ShownLaws.{PreviewListsReady, PublishedIsLastFin
 ghost use Rattle.cv_event.specs.JobLaws.{AcceptedIsCounted, CanvasesStay, SlotsAreOfTheTaken, FreshIsOfEdits};
 ghost use Rattle.cv_event.specs.JobLaws.{DeliveryIsByLooker, FinishIsByComposer, TaskIsDue};
 ghost use Rattle.cv_event.specs.JobLaws.{LooksAreOfLiveJobs, ComposesAreOfLiveJobs, JobsAreStarts};
+ghost use Rattle.cv_event.specs.JobLaws.{StartedJobsAreThere};
 ghost use Rattle.cv_event.specs.JobLaws.{NoMemoryNeverStands};
 
 /// The present project is that of the opening behind all accepted edits.
@@ -65,7 +66,8 @@ pub fn slots_are_as_looked()
     ensures { SlotsAreAsLooked }
 {}
 
-/// A slot of a job without end is touched where an edit behind the start touches one of its dependencies.
+/// A slot of a job without end is touched where an accepted edit behind the start touches one of its
+/// dependencies.
 pub fn touched_by_edits()
     ensures { TouchedByEdits }
 {}
@@ -121,17 +123,19 @@ pub fn text_and_edits_tell_journal()
     ensures { TextAndEditsTellJournal }
 {}
 
-/// The numbers of a legal journal's acts are of their types.
+/// The numbers of a legal journal's acts are of their types, where the opening has at most 32 layers, as many
+/// canvases as can be numbered, and sizes of their types.
 pub fn legal_acts_fit()
     ensures { LegalActsFit }
 {}
 
-/// A job of a legal journal has at most as many slots as a preview can tell.
+/// A job of a legal journal has at most as many slots as a preview can tell, where the opening has at most 32
+/// layers, as many canvases as can be numbered, and sizes of their types.
 pub fn jobs_have_few_slots()
     ensures { JobsHaveFewSlots }
 {}
 
-/// A preview lists the job's ready slots.
+/// A preview lists the job's ready slots, where the job has at most 32 slots.
 pub fn preview_lists_ready()
     ensures { PreviewListsReady }
 {}
@@ -152,9 +156,14 @@ pub fn accepted_is_counted()
     ensures { AcceptedIsCounted }
 {}
 
-/// There are as many jobs as starts.
+/// Starts number their jobs 1, 2, .., and there are as many jobs as starts.
 pub fn jobs_are_starts()
     ensures { JobsAreStarts }
+{}
+
+/// A job of a number is there exactly where a start has the number.
+pub fn started_jobs_are_there()
+    ensures { StartedJobsAreThere }
 {}
 
 /// Want of memory is never the verdict of an edit that stands.
@@ -172,8 +181,8 @@ pub fn slots_are_of_the_taken()
     ensures { SlotsAreOfTheTaken }
 {}
 
-/// A slot of a job without end is fresh where the job's view is its canvas's last one, and no edit behind the
-/// start touches one of its dependencies.
+/// A slot of a job without end is fresh where the job's view is its canvas's last one, and no accepted edit
+/// behind the start touches one of its dependencies.
 pub fn fresh_is_of_edits()
     ensures { FreshIsOfEdits }
 {}
@@ -199,7 +208,7 @@ pub fn published_is_last_finished()
     ensures { PublishedIsLastFinished }
 {}
 
-/// All images in a cache are at pans of the canvas's present view.
+/// A canvas's present view is a pan of the view of each image in its cache.
 pub fn cached_views_are_pans()
     ensures { CachedViewsArePans }
 {}

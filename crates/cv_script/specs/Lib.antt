@@ -1,5 +1,6 @@
 -- Scripts, in reading order.
 pub mod Answers
+pub mod Spelling
 pub mod Words
 pub mod Kinds
 pub mod Styles

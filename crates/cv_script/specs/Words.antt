@@ -1,18 +1,12 @@
--- The words of a line.
-use Rattle.std.specs.Prelude.{ℕ, ◌==◌, Bool, ◌||◌, if◌then◌else◌, List, [], ◌∷◌, ◌++◌, Option, Some, None}
-use Rattle.std.specs.Prelude.{option_map}
+-- The machine that reads the words of a line. What the words of a line are is said by `Spelling`.
+use Rattle.std.specs.Prelude.{ℕ, ◌==◌, if◌then◌else◌, List, [], ◌∷◌, ◌++◌, Option, Some, None, option_map}
 use Rattle.std.specs.Result.{result_ok}
 use Rattle.cv_reading.specs.Machines.{Machine, run}
 use Rattle.cv_script.specs.declared.place.Place.{Place}
 use Rattle.cv_script.specs.declared.place.Place.TheVariants.{Between, Bare, Quoted, Closed}
 use Rattle.cv_script.specs.declared.place.Act.{Act}
 use Rattle.cv_script.specs.declared.place.Act.TheVariants.{Skip, Keep, End}
-
--- words are separated by spaces and tabs
-abbrev pub is_separator : ℕ → Bool
-is_separator b = b == 32 || b == 9
-
--- ---- the machine that reads them
+use Rattle.cv_script.specs.Spelling.{is_separator}
 
 -- the place behind a byte, and what becomes of the byte; None where it can't stand
 abbrev pub next_of : Place → ℕ → Option (Place × Act)

@@ -1,7 +1,8 @@
 //! Where a reader of words stands in a line.
 
 ghost use Rattle.std.specs.Prelude.{◌≡◌};
-ghost use Rattle.cv_script.specs.Words.{is_separator, next_of};
+ghost use Rattle.cv_script.specs.Spelling.{is_separator};
+ghost use Rattle.cv_script.specs.Words.{next_of};
 
 /// A place in a line.
 #[derive(Clone, Copy, Debug, PartialEq, Eq)]
