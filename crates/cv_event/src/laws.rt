@@ -7,7 +7,7 @@ ghost use Rattle.cv_event.specs.Laws.{ComposerIsOfCompose, CacheOfOneCanvas, Cac
 ghost use Rattle.cv_event.specs.Laws.{TaskIsOfTheFirst, TaskIsLeastSlot, ComposeIsDue};
 ghost use Rattle.cv_event.specs.TextLaws.{LineTellsEntry, LineTellsRefused, TextTellsJournal};
 ghost use Rattle.cv_event.specs.TextLaws.{TextAndEditsTellJournal, LegalActsFit, JobsHaveFewSlots};
-ghost use Rattle.cv_event.specs.ViewLaws.{CachedViewsArePans, CachedLayersAreDistinct};
+ghost use Rattle.cv_event.specs.ViewLaws.{CachedViewsArePans, CachedLayersAreDistinct, HitsAreAlike};
 ghost use Rattle.cv_event.specs.ShownLaws.{PreviewListsReady, PublishedIsLastFinished};
 ghost use Rattle.cv_event.specs.JobLaws.{AcceptedIsCounted, CanvasesStay, SlotsAreOfTheTaken, FreshIsOfEdits};
 ghost use Rattle.cv_event.specs.JobLaws.{DeliveryIsByLooker, FinishIsByComposer, TaskIsDue};
@@ -82,7 +82,8 @@ pub fn cache_of_one_canvas()
     ensures { CacheOfOneCanvas }
 {}
 
-/// What stands in a cache was painted of the present parts of its layer.
+/// What stands in a cache was painted for a ready slot of a job on its canvas, at the job's view, of the present
+/// parts of its layer.
 pub fn cached_images_are_present()
     ensures { CachedImagesArePresent }
 {}
@@ -216,4 +217,9 @@ pub fn cached_views_are_pans()
 /// A cache has at most one image of each layer, and no more than its canvas's capacity.
 pub fn cached_layers_are_distinct()
     ensures { CachedLayersAreDistinct }
+{}
+
+/// An image that a look hits is at the job's view, and was painted of the same parts as the job would paint.
+pub fn hits_are_alike()
+    ensures { HitsAreAlike }
 {}
