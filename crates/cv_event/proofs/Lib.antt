@@ -19,3 +19,4 @@ pub mod DistinctLemmas
 pub mod FitLemmas
 pub mod NumberLemmas
 pub mod HitLemmas
+pub mod FateLemmas

@@ -1,5 +1,6 @@
 -- What a canvas's cache has: laws, each the clause of a function of its name.
-use Rattle.std.specs.Prelude.{◌≡◌, ℕ, ◌≤◌, nat_eq, true, List, length, map, slice_get, Option, Some, IsSomeAnd}
+use Rattle.std.specs.Prelude.{◌≡◌, ℕ, ◌≤◌, nat_eq, true, List, length, map, slice_get, Option, Some}
+use Rattle.std.specs.Prelude.{IsSomeAnd}
 use Rattle.std.specs.List.{AllByRecursion, IsDistinct}
 use Rattle.std.specs.Option.{option_map_or}
 use Rattle.cv_model.specs.declared.project.CanvasSpec.{CanvasSpec}
