@@ -7,6 +7,7 @@ pub mod TakenLemmas
 pub mod SlotLemmas
 pub mod CacheLemmas
 pub mod PresentLemmas
+pub mod PaintedLemmas
 pub mod TaskLemmas
 pub mod LineLemmas
 pub mod ReadingLemmas
@@ -17,3 +18,5 @@ pub mod DueLemmas
 pub mod DistinctLemmas
 pub mod FitLemmas
 pub mod NumberLemmas
+pub mod HitLemmas
+pub mod FateLemmas

@@ -139,11 +139,11 @@ abbrev pub CacheOfOneCanvas : Type 0
 CacheOfOneCanvas =
     (s : State) (who c : ℕ) (a : Act) → cached (did s who a) c ≡ cache_behind s c a (cached s c)
 
--- what stands in a cache was painted of the present parts of its layer
+-- what stands in a cache was painted for a job on its canvas, of the present parts of its layer
 abbrev pub CachedImagesArePresent : Type 0
 CachedImagesArePresent =
     (o : Opening) (journal : List Entry) (c : ℕ) → IsLegal o journal
-    → AllByRecursion (IsPainted (replay o journal)) (cached (replay o journal) c)
+    → AllByRecursion (IsPainted (replay o journal) c) (cached (replay o journal) c)
 
 -- ---- the task
 

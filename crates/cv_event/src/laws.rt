@@ -7,7 +7,8 @@ ghost use Rattle.cv_event.specs.Laws.{ComposerIsOfCompose, CacheOfOneCanvas, Cac
 ghost use Rattle.cv_event.specs.Laws.{TaskIsOfTheFirst, TaskIsLeastSlot, ComposeIsDue};
 ghost use Rattle.cv_event.specs.TextLaws.{LineTellsEntry, LineTellsRefused, TextTellsJournal};
 ghost use Rattle.cv_event.specs.TextLaws.{TextAndEditsTellJournal, LegalActsFit, JobsHaveFewSlots};
-ghost use Rattle.cv_event.specs.ViewLaws.{CachedViewsArePans, CachedLayersAreDistinct};
+ghost use Rattle.cv_event.specs.HitLaws.{HitsAreOfEdits, FateIsOfEdits};
+ghost use Rattle.cv_event.specs.ViewLaws.{CachedViewsArePans, CachedLayersAreDistinct, HitsAreAlike};
 ghost use Rattle.cv_event.specs.ShownLaws.{PreviewListsReady, PublishedIsLastFinished};
 ghost use Rattle.cv_event.specs.JobLaws.{AcceptedIsCounted, CanvasesStay, SlotsAreOfTheTaken, FreshIsOfEdits};
 ghost use Rattle.cv_event.specs.JobLaws.{DeliveryIsByLooker, FinishIsByComposer, TaskIsDue};
@@ -82,7 +83,8 @@ pub fn cache_of_one_canvas()
     ensures { CacheOfOneCanvas }
 {}
 
-/// What stands in a cache was painted of the present parts of its layer.
+/// What stands in a cache was painted for a ready slot of a job on its canvas, at the job's view, of the
+/// present parts of its layer.
 pub fn cached_images_are_present()
     ensures { CachedImagesArePresent }
 {}
@@ -216,4 +218,22 @@ pub fn cached_views_are_pans()
 /// A cache has at most one image of each layer, and no more than its canvas's capacity.
 pub fn cached_layers_are_distinct()
     ensures { CachedLayersAreDistinct }
+{}
+
+/// An image that a look hits is at the job's view, and was painted of the same parts as the job would paint.
+pub fn hits_are_alike()
+    ensures { HitsAreAlike }
+{}
+
+/// A look at a slot of a job without end hits where the job's view is its canvas's last one, no accepted edit
+/// behind the start touches one of the slot's dependencies, and the cache has an image of its layer at the
+/// job's view.
+pub fn hits_are_of_edits()
+    ensures { HitsAreOfEdits }
+{}
+
+/// What is delivered is dropped where an act behind the start ended the job, else stored where the slot is
+/// fresh and the canvas has a capacity, and else kept.
+pub fn fate_is_of_edits()
+    ensures { FateIsOfEdits }
 {}

@@ -2,7 +2,7 @@
 //!
 //! Contract: a `Journal` is the list of its entries with a number of spare places; `text` is the text that
 //! the definition says. Definitions: `States`, `Legality`, `Histories`, `Lines`, `Readings`; laws:
-//! `TextLaws`, `Laws`, `JobLaws`, `ShownLaws`, `ViewLaws`, in this order.
+//! `TextLaws`, `Laws`, `JobLaws`, `ShownLaws`, `ViewLaws`, `HitLaws`, in this order.
 //! `Journal::reserve`, `RefusedList`'s `push` and `text` take memory; no handle is needed.
 #![tactic(auto)]
 
