@@ -1,19 +1,21 @@
 -- A composition, pixel by pixel and run by run.
 use Rattle.std.proofs.Common.{◌≡◌, ℕ, ◌+◌, ◌-◌, ◌*◌, ◌<◌, ◌≤◌, List, ◌∷◌, [], ◌++◌, length, get_or, take, drop, map, arith, ap, sym}
-use Rattle.std.proofs.Common.{◌∙◌, refl, Option, Some, None, fold, zip, zero, suc, replicate}
+use Rattle.std.proofs.Common.{◌∙◌, refl, Option, Some, None, zip, zero, suc, replicate}
 use Rattle.std.specs.List.{AllZip, between, flat_map, range_with_len, filter_map}
 use Rattle.std.proofs.lemmas.List.{take-take, take-append-drop, take_all, take-replicate, drop-replicate}
 use Rattle.std.proofs.lemmas.List.{replicate-append-replicate, length-append, length-map}
 use Rattle.std.proofs.lemmas.List.FromFn.{length-range_with_len}
-use Rattle.std.proofs.lemmas.Slice.{between_is}
+use Rattle.std.proofs.lemmas.List.{append-nil, length-take-le, length-drop, take_at, drop_all}
+use Rattle.std.proofs.lemmas.List.Edits.{length-between}
+use Rattle.std.proofs.lemmas.Slice.{between_is, drop-append-drop}
 use Rattle.cv_model.specs.declared.blend.Blend.{Blend}
 use Rattle.cv_model.specs.declared.colour.Rgb.{Rgb}
 use Rattle.cv_model.specs.declared.colour.Rgba.{Rgba}
 use Rattle.cv_model.specs.Blends.{merge, merged}
-use Rattle.cv_model.specs.Paintings.{Painting, SlotFrame, Composition, composed, composed_at, merged_painting, image_of}
+use Rattle.cv_model.specs.Paintings.{Painting, SlotFrame, Composition, composed, composed_at, merged_painting}
 use Rattle.cv_model.specs.Pictures.{pixel}
 use Rattle.cv_model.specs.Views.{PixelGrid}
-use Rattle.cv_model.specs.Rasters.{pixels_of, row_of}
+use Rattle.cv_model.specs.Rasters.{Raster, pixels_of, row_of}
 use Rattle.cv_compose.specs.Inputs.{IsComposition, IsSlotPainting}
 use Rattle.cv_compose.specs.Planes.{colours}
 use Rattle.cv_compose.specs.Runs.{merged_run, run_of, merged_slot, merged_slots, HasPixels}
@@ -193,6 +195,48 @@ run_more xs start end order =
     ap (λ rest. take start xs ++ rest) (between_is xs start end)
     ∙ ap (λ front. front ++ drop start (take end xs)) (sym (take-take start end xs order))
     ∙ take-append-drop start (take end xs)
+
+-- pixels that are those wanted up to start, with the run behind them written, are those wanted up to its end
+pub written_more : {A : Type 0} (all old now run : List A) (start end : ℕ) → start ≤ end → end ≤ length all
+    → now ≡ take start all ++ drop start old → run ≡ between start end all
+    → take start now ++ run ++ drop (start + length run) now ≡ take end all ++ drop end old
+written_more {A = A} all old now run start end order within now_is run_is =
+    let front : length (take start all) ≡ start = length-take-le start all (omega (arith, order, within)) in
+    let size : length run ≡ end - start = ap length run_is ∙ length-between all start end within in
+    let next : start + length run ≡ end = omega (arith, order, size) in
+    let first : take start now ≡ take start all =
+    ap (take start) now_is ∙ take_at (take start all) (drop start old) start front in
+    let behind : drop (start + length run) now ≡ drop end old =
+    ap (drop (start + length run)) now_is
+    ∙ drop-append-drop start old (take start all) (start + length run) (omega arith) front
+    ∙ ap (λ n. drop n old) next in
+    ap (λ (xs : List A). xs ++ run ++ drop (start + length run) now) first
+    ∙ ap (λ (xs : List A). take start all ++ run ++ xs) behind
+    ∙ ap (λ (xs : List A). take start all ++ xs ++ drop end old) run_is
+    ∙ ap (λ (xs : List A). xs ++ drop end old) (run_more all start end order)
+
+-- there are as many of them as of those wanted
+pub written_length : {A : Type 0} (all old : List A) (start : ℕ) → start ≤ length all → length old ≡ length all
+    → length (take start all ++ drop start old) ≡ length all
+written_length all old start within same =
+    let front = length-take-le start all within in
+    let behind = length-drop start old in
+    let both = length-append (take start all) (drop start old) in
+    omega (arith, front, behind, both, within, same)
+
+-- when no run is left, they are those wanted
+pub written_all : {A : Type 0} (all old : List A) (start : ℕ) → length all ≤ start → length old ≡ length all
+    → take start all ++ drop start old ≡ all
+written_all all old start order same =
+    ap (λ xs. take start all ++ xs) (drop_all start old (omega (arith, order, same)))
+    ∙ append-nil (take start all) ∙ take_all start all order
+
+-- pictures of one size with the same pixels are the same
+pub same_picture : (a b : Raster Rgb) → a.width ≡ b.width → a.height ≡ b.height → a.pixels ≡ b.pixels → a ≡ b
+same_picture a b wide high same =
+    ap (λ w. record { width = w; height = a.height; pixels = a.pixels }) wide
+    ∙ ap (λ h. record { width = b.width; height = h; pixels = a.pixels }) high
+    ∙ ap (λ ps. record { width = b.width; height = b.height; pixels = ps }) same
 
 -- a composed picture has width times height pixels
 pub length_composed : (c : Composition) → length (composed c).pixels ≡ c.frame.width * c.frame.height

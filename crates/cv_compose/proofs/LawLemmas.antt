@@ -1,17 +1,14 @@
 -- The composition of a project's slots, and the project's pictures.
-use Rattle.std.proofs.Common.{◌≡◌, ℕ, ◌+◌, Bool, true, false, nat_eq, List, ◌∷◌, [], map, ap, sym, ◌∙◌, refl, Option, Some, None, zip, if◌then◌else◌}
+use Rattle.std.proofs.Common.{◌≡◌, ℕ, ◌+◌, Bool, true, false, nat_eq, List, ◌∷◌, [], map, ap, ◌∙◌, refl, Option, Some, None, zip, if◌then◌else◌}
 use Rattle.std.proofs.Math.Path.{fun_ext}
 use Rattle.std.specs.List.{AllZip, filter_map, list_any}
-use Rattle.cv_model.specs.declared.blend.Blend.{Blend}
-use Rattle.cv_model.specs.declared.colour.Rgb.{Rgb}
-use Rattle.cv_model.specs.declared.colour.Rgba.{Rgba}
 use Rattle.cv_model.specs.Blends.{merged}
 use Rattle.cv_model.specs.Layers.{Layer, Parts, Project, parts_among, slots}
 use Rattle.cv_model.specs.Paintings.{Painting, SlotFrame, composed, composed_at, frame_of, slot_frame, merged_painting}
 use Rattle.cv_model.specs.Pictures.{pixel, merged_slot, colour_of, listed, picture_of}
-use Rattle.cv_model.specs.Rasters.{Raster, pixels_of}
+use Rattle.cv_model.specs.Rasters.{pixels_of}
 use Rattle.cv_model.specs.Views.{PixelGrid}
-use Rattle.cv_compose.specs.Inputs.{IsComposition, IsSlotPainting}
+use Rattle.cv_compose.specs.Inputs.{IsSlotPainting}
 use Rattle.cv_compose.specs.Laws.{IsPlaceOf, ArePlacesOf, ComposesListedSlots, ComposesAllSlots, SlotsAreComposition}
 
 -- the slots from k on that a test names

@@ -3,11 +3,11 @@ use Rattle.std.proofs.Common.{◌≡◌, ℕ, ◌+◌, ◌<◌, List, ◌∷◌,
 use Rattle.std.proofs.Common.{◌∙◌, refl, append_assoc, drop-cons, add-one}
 use Rattle.std.proofs.Common.{map}
 use Rattle.std.proofs.lemmas.List.{take_more, take_more_set, drop-set-lt, map-append}
-use Rattle.std.proofs.lemmas.Grind.{common_steps}
 use Rattle.cv_model.specs.declared.blend.Blend.{Blend}
 use Rattle.cv_model.specs.declared.blend.Blend.TheVariants.{Normal, ColorDodge, ColorBurn}
 use Rattle.cv_model.specs.Blends.{channel_merged, mixed, color_dodge, color_burn}
-use Rattle.cv_compose.specs.Planes.{merged_plane, blended_plane}
+use Rattle.cv_model.specs.declared.colour.Rgb.{Rgb}
+use Rattle.cv_compose.specs.Planes.{merged_plane, blended_plane, colours}
 
 -- what lies from i on begins with the item at i
 pub drop_more : {A : Type 0} (xs : List A) (i : ℕ) (d : A) → i < length xs → drop i xs ≡ get_or xs i d ∷ drop (i + 1) xs
@@ -63,6 +63,21 @@ blended_plane_step mode below source i v within lengths is =
     ∙ append_assoc (take i source) (v ∷ []) rest ∙ ap (λ x. take i source ++ x ∷ rest) is
     ∙ ap (λ xs. take i source ++ xs) (sym more)
 
+-- the pixels up to i have the planes' colours: one more written leaves them with all colours in the end
+pub colours_step : (pixels : List Rgb) (r g b : List ℕ) (i : ℕ) (v : Rgb) → i < length pixels → length r ≡ length pixels
+    → length g ≡ length pixels → length b ≡ length pixels
+    → v ≡ record { r = get_or r i 0; g = get_or g i 0; b = get_or b i 0 }
+    → take (i + 1) (set pixels i v) ++ colours (drop (i + 1) r) (drop (i + 1) g) (drop (i + 1) b)
+    ≡ take i pixels ++ colours (drop i r) (drop i g) (drop i b)
+colours_step pixels r g b i v within red green blue is =
+    let rest = colours (drop (i + 1) r) (drop (i + 1) g) (drop (i + 1) b) in
+    let more : colours (drop i r) (drop i g) (drop i b)
+    ≡ record { r = get_or r i 0; g = get_or g i 0; b = get_or b i 0 } ∷ rest =
+    rw (drop_more r i 0 (omega (arith, red)), drop_more g i 0 (omega (arith, green)), drop_more b i 0 (omega (arith, blue))) refl in
+    ap (λ xs. xs ++ rest) (take_more_set pixels i v within)
+    ∙ append_assoc (take i pixels) (v ∷ []) rest ∙ ap (λ x. take i pixels ++ x ∷ rest) is
+    ∙ ap (λ xs. take i pixels ++ xs) (sym more)
+
 -- channels that were blended as if they were opaque are merged as those of the normal mode
 blended_then_mixed : (mode : Blend) → ((a cb cs : ℕ) → channel_merged mode a cb cs ≡ channel_merged Normal a cb (channel_merged mode 255 cb cs))
     → (below source alphas : List ℕ)
@@ -90,3 +105,6 @@ pub burn_as_normal : (below source alphas : List ℕ)
     ≡ merged_plane (channel_merged ColorBurn) below source alphas
 burn_as_normal below source alphas =
     blended_then_mixed ColorBurn (λ a cb cs. ap (mixed a cb) (sym (opaque_hides cb (color_burn cb cs)))) below source alphas
+
+-- the modes that divide
+pub ruleset divided_rules = (dodge_as_normal, burn_as_normal)

@@ -1,12 +1,11 @@
 -- Runs of pixels merged plane by plane are merged pixel by pixel.
-use Rattle.std.proofs.Common.{◌≡◌, ℕ, ◌+◌, ◌<◌, ◌==◌, ◌&&◌, true, false, List, ◌∷◌, [], length, get_or, map, arith, ap, sym, ◌∙◌, refl, Bool, suc}
+use Rattle.std.proofs.Common.{◌≡◌, ℕ, ◌<◌, ◌==◌, ◌&&◌, true, false, List, ◌∷◌, [], length, get_or, map, arith, ap, ◌∙◌, refl, Bool, suc}
 use Rattle.std.proofs.lemmas.Bool.{eqb-true}
 use Rattle.std.specs.List.{list_all}
 use Rattle.cv_model.specs.declared.blend.Blend.{Blend}
 use Rattle.cv_model.specs.declared.blend.Blend.TheVariants.{Normal, Multiply, Screen, Overlay, Darken, Lighten}
 use Rattle.cv_model.specs.declared.blend.Blend.TheVariants.{ColorDodge, ColorBurn, HardLight, Difference}
 use Rattle.cv_model.specs.declared.blend.Blend.TheVariants.{Exclusion, Addition}
-use Rattle.cv_model.specs.declared.colour.Rgb.{Rgb}
 use Rattle.cv_model.specs.declared.colour.Rgba.{Rgba}
 use Rattle.cv_model.specs.Blends.{merge, channel_merged, effective, mixed}
 use Rattle.cv_compose.specs.Planes.{red, green, blue, alpha, merged_plane, colours}

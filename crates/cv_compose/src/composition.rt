@@ -1,6 +1,6 @@
 //! Composition of a picture, run by run.
 
-ghost use Rattle.std.specs.Prelude.{◌≡◌, ◌≤◌, ◌+◌, ◌-◌, ◌*◌, ◌++◌, length, replicate, IfOk, OnOk};
+ghost use Rattle.std.specs.Prelude.{◌≡◌, ◌≤◌, ◌+◌, ◌-◌, ◌*◌, length, replicate, IfOk};
 ghost use Rattle.std.specs.List.{All, between};
 ghost use Rattle.cv_model.specs.Paintings.{composed};
 ghost use Rattle.cv_compose.specs.Planes.{colours};
@@ -15,6 +15,8 @@ use cv_layer::PaintedLayer;
 use cv_model::{Blend, NoMemory, Picture, Rgb, RgbList};
 use std::alloc::Global;
 use std::marker::Model;
+
+const BLACK: Rgb = Rgb { r: 0, g: 0, b: 0 };
 
 /// A picture with what it is composed of, seen as that. The picture is the one that the definitions give it.
 #[derive(Drop)]
@@ -78,20 +80,21 @@ fn merge_slots(
     }
 }
 
-/// Puts the colours of three planes behind the pixels.
-fn put_colours(pixels: &mut RgbList, r: &[u8], g: &[u8], b: &[u8]) -> Result<(), NoMemory>
-    requires green { length g.now ≡ length r.now }
-    requires blue { length b.now ≡ length r.now }
-    ensures { OnOk result (pixels.new ≡ pixels.old ++ colours r.now g.now b.now) }
+/// Gives pixels the colours of three planes.
+#[tactic(auto, using(crate::proofs::PlaneLemmas::colours_step))]
+fn set_colours(pixels: &mut [Rgb], r: &[u8], g: &[u8], b: &[u8])
+    requires red { length r.now ≡ length pixels.now }
+    requires green { length g.now ≡ length pixels.now }
+    requires blue { length b.now ≡ length pixels.now }
+    ensures { pixels.new ≡ colours r.now g.now b.now }
 {
-    for (k, red) in r.iter().enumerate() {
-        pixels.put(Rgb {
-            r: *red,
+    for (k, pixel) in pixels.iter_mut().enumerate() {
+        *pixel = Rgb {
+            r: r[k],
             g: g[k],
             b: b[k],
-        })?;
+        };
     }
-    Ok(())
 }
 
 /// Gives all of a plane one channel.
@@ -101,19 +104,13 @@ fn fill(plane: &mut [u8], channel: u8)
     plane.fill(channel);
 }
 
-/// Puts the picture's run from `start` to `end` behind the pixels.
-fn put_run(
-    pixels: &mut RgbList,
-    input: &ComposeInput,
-    start: usize,
-    end: usize,
-    tables: &[Table],
-) -> Result<(), NoMemory>
+/// Gives pixels the colours of the picture's run from `start` to `end`.
+fn set_run(pixels: &mut [Rgb], input: &ComposeInput, start: usize, end: usize, tables: &[Table])
     requires order { start ≤ end }
     requires few { end ≤ start + 1024 }
+    requires size { length pixels.now ≡ end - start }
     requires within { end ≤ input.now.frame.width * input.now.frame.height }
-    ensures { OnOk result
-        (pixels.new ≡ pixels.old ++ between start end (composed input.now).pixels) }
+    ensures { pixels.new ≡ between start end (composed input.now).pixels }
 {
     let (frame, layers) = (input.frame(), input.layers().as_slice());
     let background = frame.background();
@@ -134,7 +131,7 @@ fn put_run(
         end,
         tables,
     );
-    put_colours(pixels, r, g, b)
+    set_colours(pixels, r, g, b);
 }
 
 /// The tables of the modes that divide, where a slot has one.
@@ -148,31 +145,55 @@ fn tables_of(alloc: Global, slots: &[Slot]) -> Result<Vec<Table>, NoMemory> {
     Ok(tables)
 }
 
-/// The pixels of the picture, row by row from the top.
-fn pixels(alloc: Global, input: &ComposeInput) -> Result<RgbList, NoMemory>
-    ensures { IfOk result (λ pixels. pixels ≡ (composed input.now).pixels) }
+/// Writes the picture of the slots that are there over another of its size.
+fn write_picture(picture: &mut Picture, input: &ComposeInput, tables: &[Table])
+    requires width { picture.now.width ≡ input.now.frame.width }
+    requires height { picture.now.height ≡ input.now.frame.height }
+    ensures { picture.new ≡ composed input.now }
 {
-    let frame = input.frame();
-    let tables = tables_of(alloc, frame.slots().as_slice())?;
-    let size = frame.width() as usize * frame.height() as usize;
-    let mut pixels = RgbList::with_room(alloc, size as u64)?;
+    let size = picture.pixels().len() as usize;
     let mut start = 0;
     while start < size {
         let end = start.saturating_add(RUN).min(size);
-        put_run(&mut pixels, input, start, end, tables.as_slice())?;
+        let mut run = [BLACK; RUN];
+        let run = &mut run[..end - start];
+        set_run(run, input, start, end, tables);
+        picture.copy_in(start as u64, run);
         start = end;
     }
-    Ok(pixels)
+}
+
+/// A black picture of this size.
+fn black(alloc: Global, width: u32, height: u32) -> Result<Picture, NoMemory>
+    ensures { IfOk result (λ made. (made.width ≡ width) × (made.height ≡ height)) }
+{
+    let size = u64::from(width) * u64::from(height);
+    let mut pixels = RgbList::with_room(alloc, size)?;
+    while pixels.len() < size {
+        pixels.put(BLACK)?;
+    }
+    Ok(Picture::of(width, height, pixels))
 }
 
 /// The picture of the slots that are there, merged in order, bottom first, onto the background.
 ///
 /// Source: the rules of W3C Compositing and Blending Level 1 over an opaque backdrop, in whole numbers.
-#[tactic(auto, using(crate::proofs::CompositionLemmas::length_composed))]
 pub fn compose(alloc: Global, input: ComposeInput) -> Result<Composed, NoMemory>
     ensures { IfOk result (λ made. made ≡ input) }
 {
-    let pixels = pixels(alloc, &input)?;
-    let picture = Picture::of(input.frame().width(), input.frame().height(), pixels);
+    let frame = input.frame();
+    let tables = tables_of(alloc, frame.slots().as_slice())?;
+    let mut picture = black(alloc, frame.width(), frame.height())?;
+    write_picture(&mut picture, &input, tables.as_slice());
     Ok(Composed { input, picture })
+}
+
+/// Writes the picture that `compose` gives over another of its size. Takes no memory, so that the modes that
+/// divide do so at each pixel.
+pub fn compose_into(input: &ComposeInput, picture: &mut Picture)
+    requires width { picture.now.width ≡ input.now.frame.width }
+    requires height { picture.now.height ≡ input.now.frame.height }
+    ensures { picture.new ≡ composed input.now }
+{
+    write_picture(picture, input, &[]);
 }

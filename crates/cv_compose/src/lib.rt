@@ -15,7 +15,7 @@ mod planes;
 mod runs;
 mod tables;
 
-pub use composition::{Composed, compose};
+pub use composition::{Composed, compose, compose_into};
 pub use frame::{Frame, Slot, SlotList};
 pub use input::{ComposeInput, SlotImages};
 

@@ -80,17 +80,17 @@ end_one j who (act.Save c k) job = sym (or_none job.ended)
 -- ---- what stays of a job
 
 -- a change that leaves a part of a job, where a test passes
-stays_where : {A : Type 0} (part : Job → A) (b : Bool) (change : Job → Job) (job : Job) → part (change job) ≡ part
+pub stays_where : {A : Type 0} (part : Job → A) (b : Bool) (change : Job → Job) (job : Job) → part (change job) ≡ part
     job → part (if b then change job else job) ≡ part job
 stays_where part true change job same = same
 stays_where part false change job same = refl
 
-edited_stays : {A : Type 0} (part : Job → A) (b : Bool) (job more : Job) → part more ≡ part job → part (if b then job
+pub edited_stays : {A : Type 0} (part : Job → A) (b : Bool) (job more : Job) → part more ≡ part job → part (if b then job
     else more) ≡ part job
 edited_stays part true job more same = refl
 edited_stays part false job more same = same
 
-edit_stays : {A : Type 0} (part : Job → A) (e : Edit) (v : Option EditError) (job : Job) → part (job_edited e job) ≡
+pub edit_stays : {A : Type 0} (part : Job → A) (e : Edit) (v : Option EditError) (job : Job) → part (job_edited e job) ≡
     part job → part (edit_does e v job) ≡ part job
 edit_stays part e None job same = same
 edit_stays part e (Some error) job same = refl

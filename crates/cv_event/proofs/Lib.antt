@@ -1,5 +1,6 @@
 -- Lemmas on journals, for the proofs of all crates.
 pub mod WorkedJournals
+pub mod WorkedCanvases
 pub mod JobLemmas
 pub mod EndLemmas
 pub mod TakenLemmas
@@ -12,3 +13,7 @@ pub mod ReadingLemmas
 pub mod TextLemmas
 pub mod ShownLemmas
 pub mod PanLemmas
+pub mod DueLemmas
+pub mod DistinctLemmas
+pub mod FitLemmas
+pub mod NumberLemmas

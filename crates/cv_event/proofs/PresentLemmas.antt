@@ -39,7 +39,7 @@ use Rattle.cv_event.proofs.CacheLemmas.{cache_of_one_canvas}
 
 -- ---- lists
 
-all_map : {A B : Type 0} (P : A → Type 0) (Q : B → Type 0) (f : A → B) → ((x : A) → P x → Q (f x)) → (xs : List A) →
+pub all_map : {A B : Type 0} (P : A → Type 0) (Q : B → Type 0) (f : A → B) → ((x : A) → P x → Q (f x)) → (xs : List A) →
     AllByRecursion P xs → AllByRecursion Q (map f xs)
 all_map P Q f keeps [] h = tt
 all_map P Q f keeps (x ∷ xs) h = (keeps x h.0, all_map P Q f keeps xs h.1)
@@ -49,18 +49,18 @@ pub all_same : {A : Type 0} (P Q : A → Type 0) → ((x : A) → P x → Q x) �
 all_same P Q keeps [] h = tt
 all_same P Q keeps (x ∷ xs) h = (keeps x h.0, all_same P Q keeps xs h.1)
 
-all_change : {A : Type 0} (P : A → Type 0) (f : A → A) → ((x : A) → P x → P (f x)) → (xs : List A) (i : ℕ) →
+pub all_change : {A : Type 0} (P : A → Type 0) (f : A → A) → ((x : A) → P x → P (f x)) → (xs : List A) (i : ℕ) →
     AllByRecursion P xs → AllByRecursion P (change_at i f xs)
 all_change P f keeps [] i h = tt
 all_change P f keeps (x ∷ xs) zero h = (keeps x h.0, h.1)
 all_change P f keeps (x ∷ xs) (suc i) h = (h.0, all_change P f keeps xs i h.1)
 
-all_more : {A : Type 0} (P : A → Type 0) (xs ys : List A) → AllByRecursion P xs → AllByRecursion P ys →
+pub all_more : {A : Type 0} (P : A → Type 0) (xs ys : List A) → AllByRecursion P xs → AllByRecursion P ys →
     AllByRecursion P (xs ++ ys)
 all_more P [] ys h g = g
 all_more P (x ∷ xs) ys h g = (h.0, all_more P xs ys h.1 g)
 
-all_at : {A : Type 0} (P : A → Type 0) (xs : List A) (i : ℕ) (x : A) → AllByRecursion P xs → slice_get xs i ≡ Some x
+pub all_at : {A : Type 0} (P : A → Type 0) (xs : List A) (i : ℕ) (x : A) → AllByRecursion P xs → slice_get xs i ≡ Some x
     → P x
 all_at P [] i x h is = absurd cc
 all_at P (y ∷ ys) zero x h is = let same : y ≡ x = cc in subst P same h.0
@@ -122,7 +122,7 @@ IsFreshSlot present taken slot = slot.touched ≡ false → parts taken slot.lay
 abbrev pub IsFreshJob : Project → Job → Type 0
 IsFreshJob present job = job.ended ≡ None → AllByRecursion (IsFreshSlot present job.project) job.slots
 
-neither : (a b : Bool) → (a || b) ≡ false → (a ≡ false) × (b ≡ false)
+pub neither : (a b : Bool) → (a || b) ≡ false → (a ≡ false) × (b ≡ false)
 neither true b h = absurd (false≢true (sym h))
 neither false b h = (refl, h)
 
@@ -241,22 +241,26 @@ parts_one s who (act.Cancel j) image h = refl
 parts_one s who (act.Preview j bits) image h = refl
 parts_one s who (act.Save c j) image h = refl
 
-project_fixed : IsFixed (λ (job : Job). job.project)
+pub project_fixed : IsFixed (λ (job : Job). job.project)
 project_fixed = record { slots = λ job slots. refl; composer = λ job o. refl; ended = λ job o. refl }
 
-view_fixed : IsFixed (λ (job : Job). job.view)
+pub view_fixed : IsFixed (λ (job : Job). job.view)
 view_fixed = record { slots = λ job slots. refl; composer = λ job o. refl; ended = λ job o. refl }
 
 painted_one : (s : State) (who : ℕ) (a : Act) (image : Cached) → Allows s who a → leaves s.project a image ≡ true →
     IsPainted s image → IsPainted (did s who a) image
-painted_one s who a image allowed left was = record {
-  number = was.number;
-  job = does was.number who a was.job;
-  job_is = after_one s who a was.number was.job allowed was.job_is;
-  view_is = was.view_is ∙ sym (fixed_one (λ (job : Job). job.view) view_fixed was.number who a was.job);
-  parts_are = ap (λ p. parts p image.layer) (fixed_one (λ (job : Job). job.project) project_fixed was.number who a
-      was.job) ∙ was.parts_are ∙ parts_one s who a image left;
-}
+painted_one s who a image allowed left was =
+    let same : parts (does was.number who a was.job).project image.layer ≡ parts (did s who a).project image.layer =
+    ap (λ p. parts p image.layer) (fixed_one (λ (job : Job). job.project) project_fixed was.number who a was.job)
+    ∙ was.parts_are ∙ parts_one s who a image left in
+    record {
+      number = was.number;
+      job = does was.number who a was.job;
+      job_is = after_one s who a was.number was.job allowed was.job_is;
+      view_is = was.view_is ∙ sym (fixed_one (λ (job : Job). job.view) view_fixed was.number who a was.job);
+      parts_are = same;
+      deps_are = deps_same (does was.number who a was.job).project (did s who a).project image.layer same;
+    }
 
 -- what is stored is of a fresh slot
 both_true : (a b : Bool) → (a && b) ≡ true → (a ≡ true) × (b ≡ true)
@@ -308,8 +312,8 @@ painted_stored s who j at image fresh allowed c is = by (job_in s.jobs j) refl a
           job = job;
           job_is = there;
           view_is = refl;
-          parts_are =
-              slot_fresh live.1;
+          parts_are = slot_fresh live.1;
+          deps_are = deps_same job.project s.project slot.layer (slot_fresh live.1);
         })
 
     by : (o : Option Job) → job_in s.jobs j ≡ o → IsSomeAnd o (λ (job : Job). IsSomeAnd (slice_get job.slots at) (λ

@@ -1,37 +1,31 @@
--- What previews list, who paints for a slot, and what is published.
+-- What previews list, and what is published.
 use Rattle.std.proofs.Common.{◌≡◌, ◌∙◌, sym, ap, refl, ℕ, zero, suc, ◌+◌, ◌*◌, ◌/◌, ◌%◌, ◌≤◌, ◌==◌, Bool, true, false}
-use Rattle.std.proofs.Common.{not, ◌&&◌, ◌||◌, List, [], ◌∷◌, length, map, Option, Some, None, slice_get, option_map}
+use Rattle.std.proofs.Common.{List, [], ◌∷◌, length, map, Option, Some, None, slice_get, option_map}
 use Rattle.std.proofs.Common.{filter, option_and_then, is_some, IsSomeAnd, fold, arith, if◌then◌else◌}
-use Rattle.std.specs.List.{list_any}
 use Rattle.std.specs.Option.{option_or, option_map_or}
-use Rattle.std.proofs.lemmas.Bool.Decides.{nat_tests}
 use Rattle.std.proofs.lemmas.Bool.{false≢true}
 use Rattle.cv_model.specs.declared.edit.Edit.{Edit}
 use Rattle.cv_model.specs.declared.edit.EditError.{EditError}
 use Rattle.cv_model.specs.declared.project.CanvasSpec.{CanvasSpec}
 use Rattle.cv_model.specs.Views.{PixelGrid}
-use Rattle.cv_model.specs.Layers.{Layer, slots}
 use Rattle.cv_event.specs.declared.entry.Act.{Act}
 use Rattle.cv_event.specs.declared.entry.Act.TheVariants as act
 use Rattle.cv_event.specs.declared.entry.Entry.{Entry}
 use Rattle.cv_event.specs.declared.entry.Fate.{Fate}
 use Rattle.cv_event.specs.declared.entry.Fate.TheVariants.{Stored, Kept, Dropped}
 use Rattle.cv_event.specs.declared.slot.Slot.{Slot}
-use Rattle.cv_event.specs.declared.slot.Standing.{Standing}
-use Rattle.cv_event.specs.declared.slot.Standing.TheVariants.{Open, Missed, Ready, Lost}
 use Rattle.cv_event.specs.States.{Job, Cached, Canvas, State, change_at, job_in, view_on, canvas_edited}
-use Rattle.cv_event.specs.States.{stays, canvas_viewed, new_slot, new_job, started, looked, delivered, with_cache}
+use Rattle.cv_event.specs.States.{stays, canvas_viewed, started, with_cache}
 use Rattle.cv_event.specs.States.{canvases_looked, canvases_delivered, taken_of, publishes, canvases_finished}
 use Rattle.cv_event.specs.States.{served, stored, edit_made, did, after, new_canvas, begin, replay}
 use Rattle.cv_event.specs.Legality.{is_ready, ready_from, ready_bits, LegalFrom}
 use Rattle.cv_event.specs.Lines.{set_bits, listed_slots}
-use Rattle.cv_event.specs.Laws.{entry_of, started_between}
-use Rattle.cv_event.specs.ShownLaws.{PreviewListsReady, is_miss, misses, MissedByLooker, published_on}
+use Rattle.cv_event.specs.Laws.{entry_of}
+use Rattle.cv_event.specs.ShownLaws.{PreviewListsReady, published_on}
 use Rattle.cv_event.specs.ShownLaws.{finished_by, last_finished, PublishedIsLastFinished}
-use Rattle.cv_event.proofs.JobLemmas.{at_map, job_does, job_after, began}
+use Rattle.cv_event.proofs.JobLemmas.{job_does, job_after}
 use Rattle.cv_event.proofs.EndLemmas.{or_more, or_none, fixed_more, IsFixed}
-use Rattle.cv_event.proofs.SlotLemmas.{changed, edit_part, on_slot, slot_does, slot_one, slots_none, same_some}
-use Rattle.cv_event.proofs.SlotLemmas.{some_none}
+use Rattle.cv_event.proofs.SlotLemmas.{changed}
 use Rattle.cv_event.proofs.TakenLemmas.{seen_same, seen_map, cache_changed, taken_fixed}
 
 -- ---- previews
@@ -76,106 +70,6 @@ preview_lists_ready s who j bits allowed few = by (job_in s.jobs j) allowed few
         → listed_slots bits ≡ option_map_or (λ (job : Job). ready_from 0 job.slots) o []
     by None allowed few = absurd few
     by (Some job) allowed few = ap listed_slots allowed.1 ∙ listed job.slots few
-
--- ---- who paints
-
--- a slot waits for this caller
-abbrev waits : ℕ → Standing → Bool
-waits who Open = false
-waits who (Missed w) = w == who
-waits who Ready = false
-waits who Lost = false
-
--- what makes it wait
-miss_looked : (who w : ℕ) (a b hit : Bool) (slot : Slot) → waits w (on_slot a b (looked who hit) slot).standing ≡ true
-    → (waits w slot.standing || (who == w && (a && (b && not hit)))) ≡ true
-miss_looked who w false b hit slot h = ap (λ x. x || (who == w && false)) h
-miss_looked who w true false hit slot h = ap (λ x. x || (who == w && false)) h
-miss_looked who w true true true slot h = absurd (false≢true h)
-miss_looked who w true true false slot h = by (waits w slot.standing) (who == w) h
-  where
-    by : (x y : Bool) → y ≡ true → (x || (y && true)) ≡ true
-    by true y h = refl
-    by false true h = refl
-    by false false h = h
-
-not_delivered : (w : ℕ) (fate : Fate) → waits w (delivered fate) ≡ false
-not_delivered w Stored = refl
-not_delivered w Kept = refl
-not_delivered w Dropped = refl
-
-miss_delivered : (who w : ℕ) (a b : Bool) (fate : Fate) (slot : Slot)
-    → waits w (on_slot a b (delivered fate) slot).standing ≡ true
-    → (waits w slot.standing || (who == w && false)) ≡ true
-miss_delivered who w false b fate slot h = ap (λ x. x || (who == w && false)) h
-miss_delivered who w true false fate slot h = ap (λ x. x || (who == w && false)) h
-miss_delivered who w true true fate slot h = absurd (false≢true (sym (not_delivered w fate) ∙ h))
-
--- an act that leaves the slot waiting
-miss_stays : (who w : ℕ) (slot : Slot) → waits w slot.standing ≡ true
-    → (waits w slot.standing || (who == w && false)) ≡ true
-miss_stays who w slot h = ap (λ x. x || (who == w && false)) h
-
-miss_one : (j at w : ℕ) (job : Job) (who : ℕ) (a : Act) (slot : Slot)
-    → waits w (slot_does j at job who a slot).standing ≡ true
-    → (waits w slot.standing || (who == w && is_miss j at a)) ≡ true
-miss_one j at w job who (act.Edit e v) slot h =
-    miss_stays who w slot (sym (edit_part (λ (x : Slot). waits w x.standing) job e v slot refl) ∙ h)
-miss_one j at w job who (act.View c view) slot h = miss_stays who w slot h
-miss_one j at w job who (act.Start c k) slot h = miss_stays who w slot h
-miss_one j at w job who (act.Look k i hit) slot h = miss_looked who w (k == j) (i == at) hit slot h
-miss_one j at w job who (act.Deliver k i fate) slot h = miss_delivered who w (k == j) (i == at) fate slot h
-miss_one j at w job who (act.Compose k) slot h = miss_stays who w slot h
-miss_one j at w job who (act.Finish k) slot h = miss_stays who w slot h
-miss_one j at w job who (act.Fail k) slot h = miss_stays who w slot h
-miss_one j at w job who (act.Cancel k) slot h = miss_stays who w slot h
-miss_one j at w job who (act.Preview k bits) slot h = miss_stays who w slot h
-miss_one j at w job who (act.Save c k) slot h = miss_stays who w slot h
-
-miss_join : (a m r b : Bool) → (b ≡ true → (a || m) ≡ true) → (b || r) ≡ true → (a || (m || r)) ≡ true
-miss_join true m r b f h = refl
-miss_join false true r b f h = refl
-miss_join false false r true f h = absurd (false≢true (f refl))
-miss_join false false r false f h = h
-
-miss_more : (j at w : ℕ) (rest : List Entry) (job : Job) (slot now : Slot) → slice_get job.slots at ≡ Some slot
-    → slice_get (fold (job_does j) job rest).slots at ≡ Some now → waits w now.standing ≡ true
-    → (waits w slot.standing || list_any (misses w j at) rest) ≡ true
-miss_more j at w [] job slot now is behind h =
-    ap (λ (x : Slot). waits w x.standing || false) (same_some (slice_get job.slots at) is behind)
-    ∙ ap (λ b. b || false) h
-miss_more j at w (entry ∷ rest) job slot now is behind h =
-    let does = slot_does j at job entry.caller entry.act in
-    let next : slice_get (job_does j job entry).slots at ≡ Some (does slot) =
-    slot_one j entry.caller entry.act job at ∙ ap (option_map does) is in
-    miss_join (waits w slot.standing) (misses w j at entry) (list_any (misses w j at) rest)
-    (waits w (does slot).standing) (miss_one j at w job entry.caller entry.act slot)
-    (miss_more j at w rest (job_does j job entry) (does slot) now next behind h)
-
-itself : (n : ℕ) → (n == n) ≡ true
-itself n = grind (arith, nat_tests)
-
-pub missed_by_looker : MissedByLooker
-missed_by_looker o past rest who c j at painter legal job slot there is missed =
-    by (slice_get (slots (replay o past).project (began o past rest who c j legal).view) at) refl
-  where
-    by : (l : Option Layer)
-        → slice_get (slots (replay o past).project (began o past rest who c j legal).view) at ≡ l
-        → list_any (misses painter j at) rest ≡ true
-    by None none =
-        let b = began o past rest who c j legal in
-        let first = new_job c (replay o past).project b.view in
-        let same : job ≡ fold (job_does j) first rest = same_some (job_in (replay o (started_between past who c j rest)).jobs j) there b.job_is in
-        let gone = slots_none j rest first at (at_map new_slot (slots (replay o past).project b.view) at ∙ ap (option_map new_slot) none) in
-        absurd (some_none slot (sym is ∙ ap (λ (k : Job). slice_get k.slots at) same ∙ gone))
-    by (Some l) some =
-        let b = began o past rest who c j legal in
-        let first = new_job c (replay o past).project b.view in
-        let same : job ≡ fold (job_does j) first rest = same_some (job_in (replay o (started_between past who c j rest)).jobs j) there b.job_is in
-        miss_more j at painter rest first (new_slot l) slot
-        (at_map new_slot (slots (replay o past).project b.view) at ∙ ap (option_map new_slot) some)
-        (ap (λ (k : Job). slice_get k.slots at) (sym same) ∙ is)
-        (ap (waits painter) missed ∙ itself painter)
 
 -- ---- what is published
 
@@ -227,37 +121,53 @@ seen_one part seen s who c (act.Preview j bits) = refl
 seen_one part seen s who c (act.Save k j) = refl
 
 -- a canvas stays
-abbrev presence : Canvas → Option ℕ
+abbrev pub presence : Canvas → Option ℕ
 presence k = Some 0
 
-presence_seen : IsSeen presence
+pub presence_seen : IsSeen presence
 presence_seen = record { viewed = λ view k. refl; cache = λ cache k. refl }
 
-abbrev IsThere : State → ℕ → Type 0
+abbrev pub IsThere : State → ℕ → Type 0
 IsThere s c = option_and_then presence (slice_get s.canvases c) ≡ Some 0
 
 published_seen : IsSeen (λ (k : Canvas). k.published)
 published_seen = record { viewed = λ view k. refl; cache = λ cache k. refl }
 
-there_finished : (s : State) (c j : ℕ) (o : Option Job)
-    → option_and_then presence (slice_get (option_map_or (λ (job : Job). change_at job.canvas (publishes j job) s.canvases) o s.canvases) c)
-    ≡ option_and_then presence (slice_get s.canvases c)
-there_finished s c j None = refl
-there_finished s c j (Some job) = seen_same presence (publishes j job) s.canvases job.canvas c (λ k. refl)
+-- a part that a finish leaves too
+seen_finished : {A : Type 0} (part : Canvas → Option A) → ((j : ℕ) (job : Job) (k : Canvas) → part (publishes j job k) ≡ part k)
+    → (s : State) (c j : ℕ) (o : Option Job)
+    → option_and_then part (slice_get (option_map_or (λ (job : Job). change_at job.canvas (publishes j job) s.canvases) o s.canvases) c)
+    ≡ option_and_then part (slice_get s.canvases c)
+seen_finished part same s c j None = refl
+seen_finished part same s c j (Some job) = seen_same part (publishes j job) s.canvases job.canvas c (same j job)
 
-there_act : (s : State) (c : ℕ) (a : Act)
-    → option_and_then presence (slice_get (finished s a) c) ≡ option_and_then presence (slice_get s.canvases c)
-there_act s c (act.Edit e v) = refl
-there_act s c (act.View k view) = refl
-there_act s c (act.Start k j) = refl
-there_act s c (act.Look j at hit) = refl
-there_act s c (act.Deliver j at fate) = refl
-there_act s c (act.Compose j) = refl
-there_act s c (act.Finish j) = there_finished s c j (job_in s.jobs j)
-there_act s c (act.Fail j) = refl
-there_act s c (act.Cancel j) = refl
-there_act s c (act.Preview j bits) = refl
-there_act s c (act.Save k j) = refl
+seen_act : {A : Type 0} (part : Canvas → Option A) → ((j : ℕ) (job : Job) (k : Canvas) → part (publishes j job k) ≡ part k)
+    → (s : State) (c : ℕ) (a : Act)
+    → option_and_then part (slice_get (finished s a) c) ≡ option_and_then part (slice_get s.canvases c)
+seen_act part same s c (act.Edit e v) = refl
+seen_act part same s c (act.View k view) = refl
+seen_act part same s c (act.Start k j) = refl
+seen_act part same s c (act.Look j at hit) = refl
+seen_act part same s c (act.Deliver j at fate) = refl
+seen_act part same s c (act.Compose j) = refl
+seen_act part same s c (act.Finish j) = seen_finished part same s c j (job_in s.jobs j)
+seen_act part same s c (act.Fail j) = refl
+seen_act part same s c (act.Cancel j) = refl
+seen_act part same s c (act.Preview j bits) = refl
+seen_act part same s c (act.Save k j) = refl
+
+-- a part that no act changes
+pub settled_one : {A : Type 0} (part : Canvas → Option A) → IsSeen part
+    → ((j : ℕ) (job : Job) (k : Canvas) → part (publishes j job k) ≡ part k) → (s : State) (who c : ℕ) (a : Act)
+    → option_and_then part (slice_get (did s who a).canvases c) ≡ option_and_then part (slice_get s.canvases c)
+settled_one part seen same s who c a = seen_one part seen s who c a ∙ seen_act part same s c a
+
+pub settled_more : {A : Type 0} (part : Canvas → Option A) → IsSeen part
+    → ((j : ℕ) (job : Job) (k : Canvas) → part (publishes j job k) ≡ part k) → (s : State) (rest : List Entry) (c : ℕ)
+    → option_and_then part (slice_get (fold after s rest).canvases c) ≡ option_and_then part (slice_get s.canvases c)
+settled_more part seen same s [] c = refl
+settled_more part seen same s (entry ∷ rest) c =
+    settled_more part seen same (after s entry) rest c ∙ settled_one part seen same s entry.caller c entry.act
 
 -- what a finish publishes on a canvas that is there
 publish_where : (b : Bool) (j : ℕ) (job : Job) (o : Option Canvas) → option_and_then presence o ≡ Some 0
@@ -299,7 +209,7 @@ publish_finish s rest who c j legal there = by (job_in s.jobs j) refl legal.0
         (job_after s entries j job legal is) (fixed_more (taken_of j) (taken_fixed j) j entries job)
         (fixed_more (λ (job : Job). job.canvas) canvas_fixed j entries job)))
 
-publish_one : (s : State) (rest : List Entry) (who c : ℕ) (a : Act) → LegalFrom s (entry_of who a ∷ rest)
+pub publish_one : (s : State) (rest : List Entry) (who c : ℕ) (a : Act) → LegalFrom s (entry_of who a ∷ rest)
     → IsThere s c
     → published_on (did s who a) c
     ≡ option_or (finished_by (fold after s (entry_of who a ∷ rest)) c a) (published_on s c)
@@ -322,7 +232,7 @@ publish_more s [] c legal there = refl
 publish_more s (entry ∷ rest) c legal there =
     let t = fold after s (entry ∷ rest) in
     publish_more (after s entry) rest c legal.1
-    (seen_one presence presence_seen s entry.caller c entry.act ∙ there_act s c entry.act ∙ there)
+    (settled_one presence presence_seen (λ j job k. refl) s entry.caller c entry.act ∙ there)
     ∙ ap (option_or (last_finished t c rest)) (publish_one s rest entry.caller c entry.act legal there)
     ∙ sym (or_more (last_finished t c rest) (finished_by t c entry.act) (published_on s c))
 

@@ -283,7 +283,7 @@ delivered_where true false standing slot is was = and_true (is_open slot.standin
 delivered_where false b standing slot is was = and_true (is_open slot.standing)
 
 -- the slot of an allowed look is open
-look_open : (s : State) (j k i at : ℕ) (job : Job) (slot : Slot) → task s ≡ Some (Look k i) → job_in s.jobs j ≡ Some
+pub look_open : (s : State) (j k i at : ℕ) (job : Job) (slot : Slot) → task s ≡ Some (Look k i) → job_in s.jobs j ≡ Some
     job
     → slice_get job.slots at ≡ Some slot → (k == j) ≡ true → (i == at) ≡ true → is_open slot.standing ≡ true
 look_open s j k i at job slot due there is a b =
@@ -292,7 +292,7 @@ look_open s j k i at job slot due there is a b =
     task_slot_open s j at job slot (due ∙ (λ d. Some (Look (number d) (place d)))) there is
 
 -- the slot of an allowed delivery is missed
-delivery_missed : (s : State) (who j k i at : ℕ) (job : Job) (slot : Slot) (fate : Fate) → Allows s who (act.Deliver
+pub delivery_missed : (s : State) (who j k i at : ℕ) (job : Job) (slot : Slot) (fate : Fate) → Allows s who (act.Deliver
     k i fate) → job_in s.jobs j ≡ Some job
     → slice_get job.slots at ≡ Some slot → (k == j) ≡ true → (i == at) ≡ true → slot.standing ≡ Missed who
 delivery_missed s who j k i at job slot fate allowed there is a b =
@@ -570,7 +570,7 @@ edit_composer : (e : Edit) (v : Option EditError) (job : Job) → is_none (edit_
 edit_composer e None job = ap is_none (edited_composer (is_some job.ended) e job) ∙ and_true (is_none job.composer)
 edit_composer e (Some error) job = and_true (is_none job.composer)
 
-composer_one : (j who : ℕ) (a : Act) (job : Job) → is_none (does j who a job).composer ≡ (is_none job.composer && not
+pub composer_one : (j who : ℕ) (a : Act) (job : Job) → is_none (does j who a job).composer ≡ (is_none job.composer && not
     (composes j a))
 composer_one j who (act.Edit e v) job = edit_composer e v job
 composer_one j who (act.View c view) job = and_true (is_none job.composer)

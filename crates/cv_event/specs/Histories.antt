@@ -8,7 +8,7 @@ use Rattle.std.specs.Option.{option_or, option_map_or}
 use Rattle.cv_model.specs.declared.colour.Rgb.{Rgb}
 use Rattle.cv_model.specs.declared.edit.Edit.{Edit}
 use Rattle.cv_model.specs.Views.{PixelGrid}
-use Rattle.cv_model.specs.Layers.{parts}
+use Rattle.cv_model.specs.Layers.{parts, deps}
 use Rattle.cv_model.specs.Pictures.{picture_with}
 use Rattle.cv_model.specs.Rasters.{Raster}
 use Rattle.cv_event.specs.declared.entry.Act.{Act}
@@ -41,6 +41,15 @@ view_given c _ = None
 abbrev pub last_view : ℕ → List Entry → Option PixelGrid
 last_view c [] = None
 last_view c (entry ∷ rest) = option_or (last_view c rest) (view_given c entry.act)
+
+-- the job that an act starts
+abbrev pub start_of : Act → Option ℕ
+start_of (act.Start c j) = Some j
+start_of _ = None
+
+-- the jobs that a journal starts, in order
+abbrev pub starts : List Entry → List ℕ
+starts journal = filter_map (λ (entry : Entry). start_of entry.act) journal
 
 -- ---- a job
 
@@ -129,10 +138,12 @@ cache_behind s c (act.Deliver j at Stored) cache =
     option_map_or (λ image. put_front (capacity_on s c) image cache) (image_on s c j at) cache
 cache_behind s c _ cache = cache
 
--- an image was painted for a job, at its view, of what the present project has as the layer's parts
+-- an image was painted for a job, at its view, of what the present project has as the layer's parts, and so
+-- with the dependencies that the layer has there
 pub record IsPainted (s : State) (image : Cached) : Type 0 where
   pub number : ℕ
   pub job : Job
   pub job_is : job_in s.jobs number ≡ Some job
   pub view_is : image.view ≡ job.view
   pub parts_are : parts job.project image.layer ≡ parts s.project image.layer
+  pub deps_are : deps job.project image.layer ≡ deps s.project image.layer

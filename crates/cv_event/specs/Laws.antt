@@ -1,5 +1,5 @@
--- What holds of legal journals, in the words of their entries: laws, each the clause of a function of its
--- name. A job's own entries are those behind its start.
+-- What holds of legal journals, in the words of their entries, and, of a cache's changes and of tasks, of any
+-- state: laws, each the clause of a function of its name. A job's own entries are those behind its start.
 use Rattle.std.specs.Prelude.{◌≡◌, ℕ, true, false, not, List, ◌∷◌, ◌++◌, length}
 use Rattle.std.specs.Prelude.{slice_get, Some, None, option_map, is_some, is_none, ◌<◌}
 use Rattle.std.specs.List.{list_any, AllByRecursion}

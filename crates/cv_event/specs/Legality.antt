@@ -106,7 +106,8 @@ is_view a b = are_alike a b && (int_eq a.lx2 b.lx2 && int_eq a.ty2 b.ty2)
 abbrev pub shows : Canvas → PixelGrid → Bool
 shows canvas view = option_map_or (is_view view) canvas.view false
 
--- a job's view is its canvas's present one, and no edit since the job's start touched a dependency of the slot
+-- of a job without end: its view is its canvas's present one, and no edit that was accepted since its start
+-- touched a dependency of the slot
 abbrev pub is_fresh : Canvas → Job → Slot → Bool
 is_fresh canvas job slot = shows canvas job.view && not slot.touched
 
@@ -131,7 +132,7 @@ tests test s j at =
     (λ (job : Job). option_map_or (λ slot. on_canvas test s job slot) (slice_get job.slots at) false)
     (job_in s.jobs j) false
 
--- a slot is fresh, and a look at it hits
+-- a slot of a job without end is fresh, and a look at it hits
 abbrev pub fresh : State → ℕ → ℕ → Bool
 fresh s j at = tests is_fresh s j at
 

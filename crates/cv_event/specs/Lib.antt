@@ -6,5 +6,6 @@ pub mod Lines
 pub mod Readings
 pub mod TextLaws
 pub mod Laws
+pub mod JobLaws
 pub mod ShownLaws
 pub mod ViewLaws

@@ -1,46 +1,21 @@
--- What is shown of jobs, and who paints for them: laws, each the clause of a function of its name.
-use Rattle.std.specs.Prelude.{◌≡◌, ℕ, ◌==◌, ◌≤◌, Bool, true, false, not, ◌&&◌, if◌then◌else◌, List, [], ◌∷◌}
-use Rattle.std.specs.Prelude.{length, slice_get, Option, Some, None, option_and_then, IsSome}
-use Rattle.std.specs.List.{list_any}
+-- What is shown of jobs: laws, each the clause of a function of its name.
+use Rattle.std.specs.Prelude.{◌≡◌, ℕ, ◌==◌, ◌≤◌, Bool, false, if◌then◌else◌, List, [], ◌∷◌}
+use Rattle.std.specs.Prelude.{length, slice_get, Option, None, option_and_then, IsSome}
 use Rattle.std.specs.Option.{option_map_or, option_or}
 use Rattle.cv_model.specs.Layers.{Opening}
 use Rattle.cv_event.specs.declared.entry.Act.{Act}
 use Rattle.cv_event.specs.declared.entry.Act.TheVariants as act
 use Rattle.cv_event.specs.declared.entry.Entry.{Entry}
-use Rattle.cv_event.specs.declared.slot.Slot.{Slot}
-use Rattle.cv_event.specs.declared.slot.Standing.TheVariants.{Missed}
 use Rattle.cv_event.specs.States.{Taken, Job, Canvas, State, job_in, replay}
 use Rattle.cv_event.specs.Legality.{OfJob, ready, Allows, IsLegal}
 use Rattle.cv_event.specs.Histories.{taken}
 use Rattle.cv_event.specs.Lines.{listed_slots}
-use Rattle.cv_event.specs.Laws.{started_between}
 
 -- a preview lists the job's ready slots, of which 32 can be told
 abbrev pub PreviewListsReady : Type 0
 PreviewListsReady =
     (s : State) (who j bits : ℕ) → Allows s who (act.Preview j bits)
     → OfJob s j (λ job. length job.slots ≤ 32) → listed_slots bits ≡ ready s j
-
--- ---- who paints
-
--- an act is a look at slot `at` of job j that missed
-abbrev pub is_miss : ℕ → ℕ → Act → Bool
-is_miss j at (act.Look k slot hit) = k == j && (slot == at && not hit)
-is_miss j at _ = false
-
--- an entry is this caller's
-abbrev pub misses : ℕ → ℕ → ℕ → Entry → Bool
-misses who j at entry = entry.caller == who && is_miss j at entry.act
-
--- the caller that a slot waits for looked at it and missed it
-abbrev pub MissedByLooker : Type 0
-MissedByLooker =
-    (o : Opening) (past rest : List Entry) (who c j at painter : ℕ)
-    → IsLegal o (started_between past who c j rest)
-    → (job : Job) (slot : Slot)
-    → job_in (replay o (started_between past who c j rest)).jobs j ≡ Some job
-    → slice_get job.slots at ≡ Some slot → slot.standing ≡ Missed painter
-    → list_any (misses painter j at) rest ≡ true
 
 -- ---- what is published
 

@@ -1,4 +1,4 @@
-//! Laws of legal journals, each the clause of a call that does nothing.
+//! Laws of legal journals, of any state and of texts, each the clause of a call that does nothing.
 
 ghost use Rattle.cv_event.specs.Laws.{ProjectIsOfEdits, ViewIsLast, JobTakesThePresent, ImageIsOfTheTaken};
 ghost use Rattle.cv_event.specs.Laws.{EndIsFirst, EndsStay, EndedJobsAreVoid, CancelledJobsAreVoid};
@@ -6,9 +6,14 @@ ghost use Rattle.cv_event.specs.Laws.{SupersededJobsAreVoid, SlotsAreAsLooked, T
 ghost use Rattle.cv_event.specs.Laws.{ComposerIsOfCompose, CacheOfOneCanvas, CachedImagesArePresent};
 ghost use Rattle.cv_event.specs.Laws.{TaskIsOfTheFirst, TaskIsLeastSlot, ComposeIsDue};
 ghost use Rattle.cv_event.specs.TextLaws.{LineTellsEntry, LineTellsRefused, TextTellsJournal};
-ghost use Rattle.cv_event.specs.TextLaws.{TextAndEditsTellJournal};
-ghost use Rattle.cv_event.specs.ViewLaws.{CachedViewsArePans};
-ghost use Rattle.cv_event.specs.ShownLaws.{PreviewListsReady, MissedByLooker, PublishedIsLastFinished};
+ghost use Rattle.cv_event.specs.TextLaws.{TextAndEditsTellJournal, LegalActsFit, JobsHaveFewSlots};
+ghost use Rattle.cv_event.specs.ViewLaws.{CachedViewsArePans, CachedLayersAreDistinct};
+ghost use Rattle.cv_event.specs.ShownLaws.{PreviewListsReady, PublishedIsLastFinished};
+ghost use Rattle.cv_event.specs.JobLaws.{AcceptedIsCounted, CanvasesStay, SlotsAreOfTheTaken, FreshIsOfEdits};
+ghost use Rattle.cv_event.specs.JobLaws.{DeliveryIsByLooker, FinishIsByComposer, TaskIsDue};
+ghost use Rattle.cv_event.specs.JobLaws.{LooksAreOfLiveJobs, ComposesAreOfLiveJobs, JobsAreStarts};
+ghost use Rattle.cv_event.specs.JobLaws.{StartedJobsAreThere};
+ghost use Rattle.cv_event.specs.JobLaws.{NoMemoryNeverStands};
 
 /// The present project is that of the opening behind all accepted edits.
 pub fn project_is_of_edits()
@@ -61,7 +66,8 @@ pub fn slots_are_as_looked()
     ensures { SlotsAreAsLooked }
 {}
 
-/// A slot of a job without end is touched where an edit behind the start touches one of its dependencies.
+/// A slot of a job without end is touched where an accepted edit behind the start touches one of its
+/// dependencies.
 pub fn touched_by_edits()
     ensures { TouchedByEdits }
 {}
@@ -117,14 +123,84 @@ pub fn text_and_edits_tell_journal()
     ensures { TextAndEditsTellJournal }
 {}
 
-/// A preview lists the job's ready slots.
+/// The numbers of a legal journal's acts are of their types, where the opening has at most 32 layers, as many
+/// canvases as can be numbered, and sizes of their types.
+pub fn legal_acts_fit()
+    ensures { LegalActsFit }
+{}
+
+/// A job of a legal journal has at most as many slots as a preview can tell, where the opening has at most 32
+/// layers, as many canvases as can be numbered, and sizes of their types.
+pub fn jobs_have_few_slots()
+    ensures { JobsHaveFewSlots }
+{}
+
+/// A preview lists the job's ready slots, where the job has at most 32 slots.
 pub fn preview_lists_ready()
     ensures { PreviewListsReady }
 {}
 
-/// The caller that a slot waits for looked at it and missed it.
-pub fn missed_by_looker()
-    ensures { MissedByLooker }
+/// A slot waits for the delivery of a caller exactly where this caller looked at it and missed it, and no
+/// delivery of it stands.
+pub fn delivery_is_by_looker()
+    ensures { DeliveryIsByLooker }
+{}
+
+/// A job's picture is to be finished by exactly the caller whose compose stands.
+pub fn finish_is_by_composer()
+    ensures { FinishIsByComposer }
+{}
+
+/// As many edits count as accepted as stand accepted in the journal.
+pub fn accepted_is_counted()
+    ensures { AcceptedIsCounted }
+{}
+
+/// Starts number their jobs 1, 2, .., and there are as many jobs as starts.
+pub fn jobs_are_starts()
+    ensures { JobsAreStarts }
+{}
+
+/// A job of a number is there exactly where a start has the number.
+pub fn started_jobs_are_there()
+    ensures { StartedJobsAreThere }
+{}
+
+/// Want of memory is never the verdict of an edit that stands.
+pub fn no_memory_never_stands()
+    ensures { NoMemoryNeverStands }
+{}
+
+/// The canvases keep the sizes and capacities that they were opened with.
+pub fn canvases_stay()
+    ensures { CanvasesStay }
+{}
+
+/// A job is on its start's canvas, and its slots are those of the project and the view that it took.
+pub fn slots_are_of_the_taken()
+    ensures { SlotsAreOfTheTaken }
+{}
+
+/// A slot of a job without end is fresh where the job's view is its canvas's last one, and no accepted edit
+/// behind the start touches one of its dependencies.
+pub fn fresh_is_of_edits()
+    ensures { FreshIsOfEdits }
+{}
+
+/// A task is due exactly where some job without end has a slot at which wasn't looked, or all slots ready and
+/// nobody who composes them.
+pub fn task_is_due()
+    ensures { TaskIsDue }
+{}
+
+/// Only open slots of jobs without end are looked at.
+pub fn looks_are_of_live_jobs()
+    ensures { LooksAreOfLiveJobs }
+{}
+
+/// Only jobs without end are composed, whose slots are all ready, and each once.
+pub fn composes_are_of_live_jobs()
+    ensures { ComposesAreOfLiveJobs }
 {}
 
 /// A canvas's published picture is of what the last job took that was finished on it.
@@ -132,7 +208,12 @@ pub fn published_is_last_finished()
     ensures { PublishedIsLastFinished }
 {}
 
-/// All images in a cache are at pans of the canvas's present view.
+/// A canvas's present view is a pan of the view of each image in its cache.
 pub fn cached_views_are_pans()
     ensures { CachedViewsArePans }
+{}
+
+/// A cache has at most one image of each layer, and no more than its canvas's capacity.
+pub fn cached_layers_are_distinct()
+    ensures { CachedLayersAreDistinct }
 {}

@@ -1,5 +1,5 @@
 -- What a layer is painted from.
-use Rattle.std.specs.Prelude.{ℕ, List, ◌∷◌, ◌++◌, Option, option_map}
+use Rattle.std.specs.Prelude.{◌≡◌, ℕ, List, ◌∷◌, ◌++◌, Option, Some, IfSome, option_map}
 use Rattle.std.specs.Option.{option_to_list, option_map_or}
 use Rattle.cv_model.specs.Paintings.{Input, Stamp}
 use Rattle.cv_layer.specs.Layers.{RevisedCore}
@@ -26,3 +26,8 @@ input_of own mask join = record {
   };
   stamps = stamps_of own mask join;
 }
+
+-- what an input keeps: a mask layer that is there has the id that the layer names, and so has a join layer
+pub record IsInput (i : Input) : Type 0 where
+  pub mask : IfSome i.parts.mask (λ m. i.parts.own.mask ≡ Some m.id)
+  pub join : IfSome i.parts.join (λ j. option_map (λ named. named.layer) i.parts.own.join ≡ Some j.id)

@@ -5,7 +5,6 @@ ghost use Rattle.cv_model.specs.Grids.{IsGrid};
 
 use cv_chunks::Chunked;
 use cv_model::{Cell, Grid, NoMemory};
-use std::alloc::Global;
 use std::marker::Model;
 
 /// The cells of a grid layer, seen as a grid is: columns and rows, the left and bottom edge in doubled
@@ -51,19 +50,21 @@ impl Model for Cells {
 }
 
 impl Cells {
-    /// The cells of a grid.
-    pub fn of(alloc: Global, grid: &Grid) -> Result<Cells, NoMemory>
-        ensures { IfOk result (λ made. made ≡ grid.now) }
+    /// The cells of a grid, which are moved.
+    pub fn of(grid: Grid) -> Result<Cells, NoMemory>
+        ensures { IfOk result (λ made. made ≡ grid) }
     {
-        let cells = Vec::from_clones(alloc, grid.cells())?;
+        let (cols, rows) = (grid.cols(), grid.rows());
+        let (left2, bottom2) = (grid.left2(), grid.bottom2());
+        let (dx, dy) = (grid.dx(), grid.dy());
         Ok(Cells {
-            cols: grid.cols(),
-            rows: grid.rows(),
-            left2: grid.left2(),
-            bottom2: grid.bottom2(),
-            dx: grid.dx(),
-            dy: grid.dy(),
-            cells: Chunked::of(cells)?,
+            cols,
+            rows,
+            left2,
+            bottom2,
+            dx,
+            dy,
+            cells: Chunked::of(grid.into_cells().into_vec())?,
         })
     }
 

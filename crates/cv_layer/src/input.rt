@@ -2,7 +2,7 @@
 
 ghost use Rattle.std.specs.Prelude.{◌≡◌, Option, option_map};
 ghost use Rattle.std.specs.Option.{option_copied};
-ghost use Rattle.cv_layer.specs.Inputs.{revision_of, input_of, stamps_of};
+ghost use Rattle.cv_layer.specs.Inputs.{revision_of, input_of, stamps_of, IsInput};
 ghost use Rattle.cv_layer.specs.Stamps.{stamp_list};
 
 use crate::layer::{Layer, SharedLayer};
@@ -13,6 +13,8 @@ use std::marker::Model;
 
 /// A layer with the layers that it takes its mask and its joined texts from, seen as their parts and the
 /// stamps.
+///
+/// It keeps that a mask layer that is there has the id that the layer names, and a join layer too.
 #[derive(Drop)]
 pub struct LayerInput {
     layer: SharedLayer,
@@ -23,6 +25,7 @@ pub struct LayerInput {
 
 impl Model for LayerInput {
     ghost use Rattle.std.specs.Prelude.{◌≡◌, option_map};
+    ghost use Rattle.cv_layer.specs.Inputs.{IsInput};
     ghost use Rattle.cv_model.specs.Paintings.{Input};
     ghost use Rattle.cv_layer.specs.Inputs.{stamps_of, input_of};
     ghost use Rattle.cv_layer.specs.Stamps.{stamp_list};
@@ -31,7 +34,8 @@ impl Model for LayerInput {
 
     ghost view = { λ i. input_of i.layer i.mask i.join };
 
-    ghost invariant = { λ i. stamp_list i.stamps ≡ stamps_of i.layer i.mask i.join };
+    ghost invariant = { λ i. (stamp_list i.stamps ≡ stamps_of i.layer i.mask i.join)
+        × IsInput (input_of i.layer i.mask i.join) };
 }
 
 /// A layer's revision, or 0 where it isn't there.
@@ -76,6 +80,7 @@ impl LayerInput {
         mask: Option<SharedLayer>,
         join: Option<SharedLayer>,
     ) -> LayerInput
+        requires { IsInput (input_of layer mask join) }
         ensures { result ≡ input_of layer mask join }
     {
         let stamps = stamps_of(layer.value(), &mask, &join);
@@ -89,7 +94,8 @@ impl LayerInput {
 
     /// The layer itself.
     pub fn layer(&self) -> &Layer
-        ensures { result.now.core ≡ self.now.parts.own }
+        ensures layer { result.now.core ≡ self.now.parts.own }
+        ensures kept { IsInput self.now }
     {
         self.layer.value()
     }

@@ -65,13 +65,13 @@ impl Model for Layer {
 }
 
 impl LayerContents {
-    /// What a reader's answer holds, copied.
-    fn of(alloc: Global, given: &LayerData) -> Result<LayerContents, NoMemory>
-        ensures { IfOk result (λ made. contents_seen made ≡ contents_of given.now) }
+    /// What a reader's answer holds. Geometries, values and cells are moved into it.
+    fn of(alloc: Global, given: LayerData) -> Result<LayerContents, NoMemory>
+        ensures { IfOk result (λ made. contents_seen made ≡ contents_of given) }
     {
         match given {
             LayerData::Text(list) => Ok(LayerContents::Text(Table::of(alloc, list)?)),
-            LayerData::Grid(grid) => Ok(LayerContents::Grid(Cells::of(alloc, grid)?)),
+            LayerData::Grid(grid) => Ok(LayerContents::Grid(Cells::of(grid)?)),
         }
     }
 
@@ -117,7 +117,7 @@ fn shared_join(join: &Option<Shared<Join>>) -> Result<Option<Shared<Join>>, NoMe
 }
 
 impl Layer {
-    /// The layer of these parts.
+    /// The layer of these parts. What it holds is moved into it.
     pub fn of(
         alloc: Global,
         id: u32,
@@ -150,7 +150,7 @@ impl Layer {
             mask,
             join: join_of(alloc, join)?,
             style: shared(alloc, style)?,
-            contents: LayerContents::of(alloc, &contents)?,
+            contents: LayerContents::of(alloc, contents)?,
             revision,
         })
     }

@@ -8,7 +8,6 @@ ghost use Rattle.cv_model.specs.Features.{IsFeatureTable, ids_of};
 ghost use Rattle.cv_model.specs.declared.feature.Feature.{Feature};
 ghost use Rattle.cv_layer.specs.Tables.{Ascend, IsBetween, IsTable, feature_values};
 
-use crate::duplicate::{Duplicate, duplicates};
 use crate::row::FeatureRow;
 use cv_chunks::{Chunked, Shared};
 use cv_model::{Feature, FeatureList, Geometry, NoMemory, Text, Values};
@@ -40,13 +39,13 @@ impl Model for Table {
         t.ascending t.vertices t.values };
 }
 
-/// The rows of these features, in order.
-fn rows_of(alloc: Global, features: &[Feature]) -> Result<Vec<FeatureRow>, NoMemory>
-    ensures { IfOk result (λ made. made.items ≡ features.now) }
+/// The rows of these features, in order. The features are moved into them.
+fn rows_of(alloc: Global, features: Vec<Feature>) -> Result<Vec<FeatureRow>, NoMemory>
+    ensures { IfOk result (λ made. made.items ≡ features.items) }
 {
     let mut rows = Vec::with_capacity(alloc, features.len())?;
     for feature in features {
-        rows.push(FeatureRow::of(alloc, feature.duplicate(alloc)?)?)?;
+        rows.push(FeatureRow::of(alloc, feature)?)?;
     }
     Ok(rows)
 }
@@ -195,16 +194,17 @@ fn is_between(rows: &Chunked<FeatureRow>, at: u64, id: u32) -> bool
 }
 
 impl Table {
-    /// The table of a list of features, which are copied.
-    pub fn of(alloc: Global, list: &FeatureList) -> Result<Table, NoMemory>
+    /// The table of a list of features, which are moved into it.
+    pub fn of(alloc: Global, list: FeatureList) -> Result<Table, NoMemory>
         ensures { IfOk result
-            (λ made. made ≡ record { columns = list.now.columns; features = list.now.features }) }
+            (λ made. made ≡ record { columns = list.columns; features = list.features }) }
     {
-        let columns = match Shared::of(alloc, duplicates(alloc, list.columns())?) {
+        let (columns, features, _) = list.into_parts();
+        let columns = match Shared::of(alloc, columns) {
             Ok(columns) => columns,
             Err(refused) => return Err(refused.1),
         };
-        let rows = rows_of(alloc, list.features())?;
+        let rows = rows_of(alloc, features.into_vec())?;
         let ascending = ids_ascend(rows.as_slice());
         let vertices = vertices_of(rows.as_slice())?;
         let values = values_of(rows.as_slice())?;

@@ -1,16 +1,14 @@
 -- Runs of a colour laid on a canvas, and strokes laid one after the other.
 use Rattle.std.proofs.Common.{◌≡◌, ℕ, ◌<◌, ◌≤◌, Bool, true, false, ◌||◌, if◌then◌else◌, List, [], ◌∷◌, ◌++◌, Option, None}
-use Rattle.std.proofs.Common.{refl, ap, sym, subst, ◌∙◌, arith, fold}
-use Rattle.std.specs.Prelude.{nat_le, nat_lt, find}
+use Rattle.std.proofs.Common.{refl, ap, sym, subst, ◌∙◌, arith}
+use Rattle.std.specs.Prelude.{find}
 use Rattle.std.specs.List.{flat_map}
 use Rattle.std.proofs.Common.{Some, take, drop, length, get_or, ◌+◌, ◌-◌, min}
 use Rattle.std.proofs.Math.Seq.{take-add}
 use Rattle.std.proofs.lemmas.Grind.{flat_map-append}
 use Rattle.std.proofs.lemmas.List.{append-nil, take_more, take_all, take-append-drop, drop-drop, length-take, length-drop}
 use Rattle.cv_model.specs.declared.feature.Feature.{Feature}
-use Rattle.std.proofs.lemmas.List.Sums.{fold-append}
 use Rattle.cv_model.specs.declared.colour.Rgba.{Rgba}
-use Rattle.cv_model.specs.declared.symbol.Symbol.{Symbol}
 use Rattle.cv_model.specs.Positions.{Position}
 use Rattle.cv_model.specs.Views.{PixelGrid, centre_of}
 use Rattle.cv_model.specs.Colours.{over, laid_on}

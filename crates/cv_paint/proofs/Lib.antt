@@ -4,3 +4,4 @@ pub mod LayingLemmas
 pub mod MaskLemmas
 pub mod CellLemmas
 pub mod PaintedLemmas
+pub mod TableLemmas

@@ -1,6 +1,6 @@
 -- Runs covered on a raster, and what is seen through a mask.
 use Rattle.std.proofs.Common.{◌≡◌, ℕ, ◌+◌, ◌<◌, Bool, true, false, ◌||◌, if◌then◌else◌, List, [], ◌∷◌, ◌++◌, map, take, length}
-use Rattle.std.proofs.Common.{get_or, set, zero, suc, refl, ap, sym, subst, ◌∙◌, arith, add-one, Option, Some, None}
+use Rattle.std.proofs.Common.{get_or, set, zero, suc, refl, ap, sym, subst, ◌∙◌, arith, Option, Some, None}
 use Rattle.std.specs.List.{range_with_len, list_any}
 use Rattle.std.proofs.Common.{drop}
 use Rattle.std.proofs.Math.Seq.{take-add}
@@ -9,7 +9,6 @@ use Rattle.cv_model.specs.declared.feature.Feature.{Feature}
 use Rattle.cv_model.specs.declared.colour.Rgba.{Rgba}
 use Rattle.cv_model.specs.Positions.{Position}
 use Rattle.cv_model.specs.Views.{PixelGrid, centre_of}
-use Rattle.cv_model.specs.Colours.{transparent}
 use Rattle.cv_model.specs.Rasters.{Raster, row_of}
 use Rattle.cv_geom.specs.declared.runs.Run.{Run}
 use Rattle.cv_geom.specs.declared.runs.Area.{Area}
@@ -18,7 +17,7 @@ use Rattle.cv_canvas.specs.Canvas.{changed}
 use Rattle.cv_paint.specs.Layings.{whole_of}
 use Rattle.cv_paint.specs.Masks.{Covers, with_covered}
 use Rattle.cv_canvas.specs.Cover.{is_covered_in}
-use Rattle.cv_paint.specs.Finish.{kept, kept_in, shown, masked, IsMaskOf, HasSize}
+use Rattle.cv_paint.specs.Finish.{kept, kept_in, shown, masked, IsMaskOf}
 
 -- a pixel is covered after a run, and after others
 one_cover : (first rest b : Bool) → ((if first then true else b) || rest) ≡ (b || (first || rest))

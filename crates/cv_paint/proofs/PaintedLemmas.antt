@@ -1,9 +1,8 @@
 -- Pixels of a layer, from what lies on a canvas and what a mask shows.
-use Rattle.std.proofs.Common.{◌≡◌, ℕ, zero, suc, ◌+◌, ◌<◌, ◌≤◌, Bool, List, [], ◌∷◌, ◌++◌, map, Option, None, refl, ap, sym, ◌∙◌, arith, if◌then◌else◌}
+use Rattle.std.proofs.Common.{◌≡◌, ℕ, zero, suc, ◌+◌, ◌<◌, ◌≤◌, Bool, List, ◌∷◌, ◌++◌, map, Option, None, refl, ap, ◌∙◌, arith}
 use Rattle.std.specs.List.{flat_map, range_with_len, list_any}
 use Rattle.std.proofs.Common.{false, ◌||◌}
 use Rattle.cv_model.specs.declared.colour.Rgba.{Rgba}
-use Rattle.cv_model.specs.declared.symbol.Symbol.{Symbol}
 use Rattle.cv_model.specs.Views.{PixelGrid, centre_of}
 use Rattle.cv_model.specs.Colours.{transparent, laid, laid_on}
 use Rattle.cv_model.specs.Layers.{Contents, Features, Cells, Parts}
@@ -13,7 +12,7 @@ use Rattle.cv_model.specs.declared.feature.Feature.{Feature}
 use Rattle.cv_canvas.specs.Cover.{is_covered_in}
 use Rattle.cv_model.specs.Rasters.{Raster, row_of, pixels_of}
 use Rattle.cv_model.specs.Pictures.{pixel, painted, is_shown, is_feature_at}
-use Rattle.cv_paint.specs.Layings.{Lays, TakesSymbol, TakesLayer}
+use Rattle.cv_paint.specs.Layings.{Lays, TakesLayer}
 use Rattle.cv_paint.specs.Finish.{HasSize, masked, shown, shows_at}
 use Rattle.cv_paint.specs.Masks.{IsMask, IsCoverOf, Covers}
 

@@ -1,5 +1,5 @@
 -- Strokes laid on all pixels of a canvas at a view.
-use Rattle.std.specs.Prelude.{ℕ, ◌≡◌, ◌<◌, List, Option, Some, None, IfSome}
+use Rattle.std.specs.Prelude.{ℕ, ◌≡◌, ◌<◌, List, Option, Some}
 use Rattle.cv_model.specs.declared.colour.Rgba.{Rgba}
 use Rattle.cv_model.specs.declared.symbol.Symbol.{Symbol}
 use Rattle.cv_model.specs.declared.feature.Feature.{Feature}

@@ -73,7 +73,7 @@ fn cell_at(cells: &Cells, p: Point2) -> Option<Cell>
 }
 
 /// The colour of the cell that holds a position, by a style, which is a ramp.
-fn cell_colour(cells: &Cells, style: &Style, p: Point2) -> Rgba
+pub fn cell_colour(cells: &Cells, style: &Style, p: Point2) -> Rgba
     ensures { result ≡ cell_colour style.now cells.now p }
 {
     match style {

@@ -7,18 +7,20 @@
 #![tactic(auto)]
 
 mod cells;
+mod centres;
 mod error;
 mod features;
 mod finish;
 mod hits;
 mod layings;
 mod masks;
+mod over_white;
 mod painted;
-mod plain;
 mod sides;
 mod strokes;
 mod texts;
 
+pub use centres::plain;
 pub use error::PaintError;
+pub use over_white::quick;
 pub use painted::paint;
-pub use plain::quick;

@@ -1,8 +1,6 @@
-use Rattle.std.proofs.Common.{◌≡◌, map, ap, sym, ◌∙◌, arith}
-use Rattle.cv_model.specs.Blends.{channel_merged, effective}
-use Rattle.cv_compose.specs.Planes.{merged_plane, colours}
-use Rattle.cv_compose.specs.Runs.{merged_run}
-use Rattle.cv_compose.proofs.RunLemmas.{colours_merged, clear_run, weighed}
+use Rattle.std.proofs.Common.{map, ap, sym, ◌∙◌, arith}
+use Rattle.cv_model.specs.Blends.{effective}
+use Rattle.cv_compose.proofs.RunLemmas.{colours_merged, clear_run}
 use Rattle.cv_compose.proofs.runs.merge_run.Goals as goal
 
 -- nothing of the layer is seen

@@ -1,16 +1,14 @@
-use Rattle.std.proofs.Common.{ℕ, List, ◌++◌, ◌*◌, length, ap, sym, refl, ◌∙◌}
+use Rattle.std.proofs.Common.{List, ◌++◌, ap, sym, refl, ◌∙◌}
 use Rattle.std.specs.List.{flat_map}
 use Rattle.cv_model.specs.declared.colour.Rgba.{Rgba}
 use Rattle.cv_model.specs.declared.style.Style.{Style}
 use Rattle.cv_model.specs.Layers.{Core, Features, Cells}
-use Rattle.cv_model.specs.Views.{PixelGrid, centre_of}
+use Rattle.cv_model.specs.Views.{centre_of}
 use Rattle.cv_model.specs.Colours.{laid}
-use Rattle.cv_model.specs.Rasters.{pixels_of}
-use Rattle.cv_model.specs.Pictures.{feature_strokes, cell_colour, pixel}
-use Rattle.cv_model.proofs.Rows.{length_pixels}
+use Rattle.cv_model.specs.Pictures.{feature_strokes, cell_colour}
 use Rattle.cv_layer.specs.Layers.{contents_seen}
 use Rattle.cv_paint.specs.Cells.{cell_pixel}
-use Rattle.cv_paint.proofs.PaintedLemmas.{cover_text, cover_grid, laid_pixels, painted_pixels}
+use Rattle.cv_paint.proofs.PaintedLemmas.{painted_pixels}
 use Rattle.cv_paint.proofs.painted.paint_view.Goals as goal
 
 pub returns-in-Text-clause-ok : goal.returns-in-Text-clause-ok
@@ -21,7 +19,7 @@ returns-in-Text-clause-ok g c =
     ∙ ap (λ (ps : List Rgba). c.args.pixels.now ++ ps)
     (painted_pixels view parts (Features c.in-Text.table.columns c.in-Text.table.features) c.in_ok-mask.mask
     (λ i j. laid (flat_map (feature_strokes parts view (centre_of view i j)) c.in-Text.table.features))
-    (ap contents_seen (sym c.in-Text.is) ∙ c.contents.ensures.contents ∙ ap (λ (k : Core). k.contents) c.layer-layer.ensures)
+    (ap contents_seen (sym c.in-Text.is) ∙ c.contents.ensures.contents ∙ ap (λ (k : Core). k.contents) c.layer-layer.ensures.layer)
     c.in_ok-mask.ensures.ok (λ i j column row. refl))
 
 pub returns-clause-ok : goal.returns-clause-ok
@@ -32,7 +30,7 @@ returns-clause-ok g c =
     ∙ ap (λ (ps : List Rgba). c.args.pixels.now ++ ps)
     (painted_pixels view parts (Cells c.in-Grid.cells) c.in_ok-mask.mask
     (cell_pixel c.style.result.now c.in-Grid.cells view)
-    (ap contents_seen (sym c.in-Grid.is) ∙ c.contents.ensures.contents ∙ ap (λ (k : Core). k.contents) c.layer-layer.ensures)
+    (ap contents_seen (sym c.in-Grid.is) ∙ c.contents.ensures.contents ∙ ap (λ (k : Core). k.contents) c.layer-layer.ensures.layer)
     c.in_ok-mask.ensures.ok
     (λ i j column row. ap (λ (s : Style). cell_colour s c.in-Grid.cells (centre_of view i j))
-    (c.style.ensures ∙ ap (λ (k : Core). k.style) c.layer-layer.ensures)))
+    (c.style.ensures ∙ ap (λ (k : Core). k.style) c.layer-layer.ensures.layer)))

@@ -1,6 +1,5 @@
-use Rattle.std.proofs.Common.{ℕ, List, sym, subst, ap, ◌≡◌, ◌∙◌, Some, None, Option}
+use Rattle.std.proofs.Common.{ℕ, List, sym, subst, ap, ◌≡◌, ◌∙◌, Some, None}
 use Rattle.std.specs.Prelude.{find}
-use Rattle.cv_model.specs.declared.feature.Feature.{Feature}
 use Rattle.cv_model.specs.Texts.{has_text}
 use Rattle.cv_paint.proofs.LayingLemmas.{found_behind, found_in, run_within}
 use Rattle.cv_paint.proofs.texts.first_with.Goals as goal
