@@ -115,3 +115,6 @@ map_on_opaque s (x ∷ xs) most full =
     let have = both (has_alpha 255 x) (list_all (has_alpha 255) xs) full in
     laid_alike (over s) (on_opaque s) x xs (over_on_opaque s x most (alpha_is 255 x have.0))
     (map_on_opaque s xs most have.1)
+
+-- the cases of a run, in which its pixels are not mixed one by one
+pub ruleset lay_rules = (map_of_opaque, map_clear, map_on_opaque)

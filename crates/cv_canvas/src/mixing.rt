@@ -10,9 +10,7 @@ use cv_blend::over;
 use cv_model::Rgba;
 
 /// Lays a colour over each of these pixels.
-#[tactic(auto,
-    using(crate::proofs::MixingLemmas::map_of_opaque, crate::proofs::MixingLemmas::map_clear,
-    crate::proofs::MixingLemmas::map_on_opaque))]
+#[tactic(auto, using(crate::proofs::MixingLemmas::lay_rules))]
 pub fn lay_on(pixels: &mut [Rgba], colour: Rgba)
     ensures { pixels.new ≡ map (over colour) pixels.old }
 {

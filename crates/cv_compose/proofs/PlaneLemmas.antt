@@ -105,3 +105,6 @@ pub burn_as_normal : (below source alphas : List ℕ)
     ≡ merged_plane (channel_merged ColorBurn) below source alphas
 burn_as_normal below source alphas =
     blended_then_mixed ColorBurn (λ a cb cs. ap (mixed a cb) (sym (opaque_hides cb (color_burn cb cs)))) below source alphas
+
+-- the modes that divide
+pub ruleset divided_rules = (dodge_as_normal, burn_as_normal)

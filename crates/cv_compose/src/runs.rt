@@ -32,8 +32,7 @@ fn blend_channels(mode: Blend, tables: &[Table], source: &mut [u8], below: &[u8]
 
 /// Merges a source's channels with their effective alphas onto the channels below. The source's room is used
 /// up.
-#[tactic(auto,
-    using(crate::proofs::PlaneLemmas::dodge_as_normal, crate::proofs::PlaneLemmas::burn_as_normal))]
+#[tactic(auto, using(crate::proofs::PlaneLemmas::divided_rules))]
 fn merge_channels(mode: Blend, tables: &[Table], below: &mut [u8], source: &mut [u8], alphas: &[u8])
     requires sources { length source.now ≡ length below.now }
     requires alphas { length alphas.now ≡ length below.now }

@@ -23,21 +23,21 @@ use Rattle.cv_event.specs.declared.slot.Slot.{Slot}
 use Rattle.cv_event.specs.declared.slot.Standing.{Standing}
 use Rattle.cv_event.specs.declared.slot.Standing.TheVariants.{Open, Missed, Ready, Lost}
 use Rattle.cv_event.specs.declared.slot.Task.{Task}
-use Rattle.cv_event.specs.declared.slot.Task.TheVariants.{Look, Compose}
+use Rattle.cv_event.specs.declared.slot.Task.TheVariants.{Compose}
 use Rattle.cv_event.specs.States.{Job, Canvas, State, change_at, job_in, slot_edited, with_end, new_slot, new_job}
-use Rattle.cv_event.specs.States.{started, looked, delivered, slot_stands, stands_at, composed_by, publishes}
+use Rattle.cv_event.specs.States.{started, looked, delivered, slot_stands, stands_at, composed_by}
 use Rattle.cv_event.specs.States.{edit_made, did, after, new_canvas, begin, replay}
 use Rattle.cv_event.specs.Legality.{is_open, open_slot, all_ready, task_behind, open_task, task_from, task}
 use Rattle.cv_event.specs.Legality.{is_view, shows, is_fresh, on_canvas, Allows, LegalFrom, IsLegal}
-use Rattle.cv_event.specs.Histories.{accepted_edit, edits, last_view, looks_at, delivers, composes, some_act}
+use Rattle.cv_event.specs.Histories.{accepted_edit, edits, looks_at, delivers, composes, some_act}
 use Rattle.cv_event.specs.Laws.{entry_of, started_between}
 use Rattle.cv_event.specs.JobLaws.{AcceptedIsCounted, CanvasesStay, slot_layer, layer_id, shown_by}
 use Rattle.cv_event.specs.JobLaws.{SlotsAreOfTheTaken, FreshIsOfEdits, is_miss, is_by, DeliveryIsByLooker}
 use Rattle.cv_event.specs.JobLaws.{FinishIsByComposer, has_task, TaskIsDue, LooksAreOfLiveJobs}
 use Rattle.cv_event.specs.JobLaws.{ComposesAreOfLiveJobs}
-use Rattle.cv_event.proofs.JobLemmas.{at_map, does, edit_does, job_does, after_one, began}
+use Rattle.cv_event.proofs.JobLemmas.{at_map, does, job_does, after_one, began}
 use Rattle.cv_event.proofs.EndLemmas.{stays_where, edited_stays, edit_stays, fixed_more, canvas_fixed}
-use Rattle.cv_event.proofs.SlotLemmas.{OpenIs, open_slot_is, look_is, LookIs, same_some, on_slot, slot_does, slot_one}
+use Rattle.cv_event.proofs.SlotLemmas.{open_slot_is, look_is, same_some, on_slot, slot_does, slot_one}
 use Rattle.cv_event.proofs.SlotLemmas.{and_true, and_false, edit_part, look_open, delivery_missed, open_one}
 use Rattle.cv_event.proofs.SlotLemmas.{slots_none, some_none, slot_now, composer_one}
 use Rattle.cv_event.proofs.TakenLemmas.{view_is_last}
@@ -81,12 +81,12 @@ accepted_is_counted o journal = accepted_more (begin o) journal ∙ omega arith
 
 -- ---- canvases
 
-spec_here : (o : Option Canvas)
+pub spec_here : (o : Option Canvas)
     → option_map (λ (k : Canvas). k.spec) o ≡ option_and_then (λ (k : Canvas). Some k.spec) o
 spec_here None = refl
 spec_here (Some k) = refl
 
-spec_first : (specs : List CanvasSpec) (c : ℕ)
+pub spec_first : (specs : List CanvasSpec) (c : ℕ)
     → option_and_then (λ (k : Canvas). Some k.spec) (slice_get (map new_canvas specs) c) ≡ slice_get specs c
 spec_first [] c = refl
 spec_first (spec ∷ specs) zero = refl
@@ -403,7 +403,7 @@ compose_task_is k job j h = by job.ended refl h
     by None live h = of_open (open_slot 0 job.slots) h live
     by (Some how) live h = absurd cc
 
-compose_is : (k : ℕ) (jobs : List Job) (j : ℕ) → task_from k jobs ≡ Some (Compose j) → ComposeIs k jobs j
+pub compose_is : (k : ℕ) (jobs : List Job) (j : ℕ) → task_from k jobs ≡ Some (Compose j) → ComposeIs k jobs j
 compose_is k [] j h = absurd cc
 compose_is k (job ∷ jobs) j h = by (open_task k job) refl h (compose_is (suc k) jobs j)
   where

@@ -1,11 +1,11 @@
 -- The numbers of a legal journal's acts are of their types.
-use Rattle.std.proofs.Common.{◌≡◌, ◌∙◌, sym, ap, refl, subst, ℕ, zero, suc, ◌+◌, ◌*◌, ◌^◌, ◌<◌, ◌≤◌, Bool, true, false}
-use Rattle.std.proofs.Common.{◌||◌, List, [], ◌∷◌, ◌++◌, length, map, filter, reverse, Option, Some, None, is_some}
+use Rattle.std.proofs.Common.{◌≡◌, ◌∙◌, sym, ap, refl, subst, ℕ, zero, suc, ◌+◌, ◌*◌, ◌^◌, ◌<◌, ◌≤◌, ◌==◌, Bool, true, false}
+use Rattle.std.proofs.Common.{List, [], ◌∷◌, ◌++◌, length, map, filter, Option, Some, None, is_some}
 use Rattle.std.proofs.Common.{slice_get, option_map, option_and_then, IsSomeAnd, fold, arith, if◌then◌else◌, nat_lt, nat_le}
 use Rattle.std.proofs.Common.{ℤ, pos, negsuc, ◌+ℤ◌, ◌*ℤ◌, ◌≤ℤ◌}
 use Rattle.std.specs.Int.Signed.{mag}
 use Rattle.std.specs.List.{AllByRecursion}
-use Rattle.std.specs.Option.{option_or, option_map_or}
+use Rattle.std.specs.Option.{option_or}
 use Rattle.std.proofs.lemmas.Bool.Decides.{nat_tests}
 use Rattle.std.proofs.lemmas.Bool.{false≢true}
 use Rattle.std.proofs.lemmas.Int.{ints}
@@ -13,35 +13,35 @@ use Rattle.std.proofs.lemmas.List.{length-map, length-reverse}
 use Rattle.std.proofs.Math.Nat.{le-mul_of_pos_right, pow-succ', one-le-pow}
 use Rattle.cv_model.specs.declared.edit.Edit.{Edit}
 use Rattle.cv_model.specs.declared.edit.EditError.{EditError}
+use Rattle.cv_model.specs.declared.edit.EditError.TheVariants as error
 use Rattle.cv_model.specs.declared.project.CanvasSpec.{CanvasSpec}
 use Rattle.cv_model.specs.Positions.{IsDoubled}
 use Rattle.cv_model.specs.Views.{PixelGrid, IsView}
-use Rattle.cv_model.specs.Layers.{Layer, Project, Opening, is_slot, slots}
+use Rattle.cv_model.specs.Layers.{Project, Opening, is_slot, slots}
 use Rattle.cv_model.specs.Edits.{step, step_layers, is_over, most_edits, names_too_much, first_refusal, verdict}
 use Rattle.cv_model.specs.Edits.{lacks_layer, lacks_feature, is_wrong_kind, is_duplicate, passes_limit, is_bad_place}
 use Rattle.cv_event.specs.declared.entry.Act.{Act}
 use Rattle.cv_event.specs.declared.entry.Act.TheVariants as act
 use Rattle.cv_event.specs.declared.entry.Entry.{Entry}
 use Rattle.cv_event.specs.declared.entry.Fate.{Fate}
-use Rattle.cv_event.specs.declared.entry.How.{How}
 use Rattle.cv_event.specs.declared.entry.How.TheVariants.{Finished, Cancelled, NoMemory}
 use Rattle.cv_event.specs.declared.slot.Slot.{Slot}
 use Rattle.cv_event.specs.declared.slot.Standing.{Standing}
 use Rattle.cv_event.specs.declared.slot.Standing.TheVariants.{Missed}
 use Rattle.cv_event.specs.States.{Taken, Job, Canvas, State, change_at, job_in, change_job, view_on, slot_edited}
 use Rattle.cv_event.specs.States.{job_edited, with_end, cancelled_on, new_slot, new_job, started, looked, delivered}
-use Rattle.cv_event.specs.States.{slot_stands, stands_at, composed_by, edit_made, did, after, new_canvas, begin, replay}
-use Rattle.cv_event.specs.Legality.{is_ready, ready_bits, fate_of, Allows, LegalFrom, IsLegal}
+use Rattle.cv_event.specs.States.{slot_stands, stands_at, composed_by, did, after, new_canvas, begin}
+use Rattle.cv_event.specs.Legality.{is_ready, ready_bits, fate_of, Allows, LegalFrom}
 use Rattle.cv_event.specs.Histories.{taken}
 use Rattle.cv_event.specs.Readings.{IsShort, HasTypes, FitsAct}
-use Rattle.cv_event.specs.Laws.{entry_of}
+use Rattle.cv_event.specs.JobLaws.{IsJudged, NoMemoryNeverStands}
 use Rattle.cv_event.specs.ShownLaws.{published_on, is_on, finished_by}
-use Rattle.cv_event.specs.TextLaws.{FitsSpec, FitsOpening, LegalActsFit}
+use Rattle.cv_event.specs.TextLaws.{FitsSpec, FitsOpening, LegalActsFit, JobsHaveFewSlots}
 use Rattle.cv_event.proofs.SlotLemmas.{look_is, open_slot_is}
 use Rattle.cv_event.proofs.PresentLemmas.{all_map, all_change, all_more, all_at, neither}
 use Rattle.cv_event.proofs.TakenLemmas.{project_one}
 use Rattle.cv_event.proofs.ShownLemmas.{settled_one, presence, presence_seen, IsThere, publish_one}
-use Rattle.cv_event.proofs.DueLemmas.{compose_is, spec_here, spec_first}
+use Rattle.cv_event.proofs.DueLemmas.{compose_is, spec_first}
 
 -- ---- views
 
@@ -82,11 +82,11 @@ length_change i change [] = refl
 length_change zero change (x ∷ xs) = refl
 length_change (suc i) change (x ∷ xs) = ap suc (length_change i change xs)
 
-length_job : (j : ℕ) (change : Job → Job) (jobs : List Job) → length (change_job j change jobs) ≡ length jobs
+pub length_job : (j : ℕ) (change : Job → Job) (jobs : List Job) → length (change_job j change jobs) ≡ length jobs
 length_job zero change jobs = refl
 length_job (suc before) change jobs = length_change before change jobs
 
-length_one : {A : Type 0} (xs : List A) (x : A) → length (xs ++ x ∷ []) ≡ suc (length xs)
+pub length_one : {A : Type 0} (xs : List A) (x : A) → length (xs ++ x ∷ []) ≡ suc (length xs)
 length_one [] x = refl
 length_one (y ∷ xs) x = ap suc (length_one xs x)
 
@@ -423,12 +423,62 @@ none_published [] c t h = absurd cc
 none_published (spec ∷ specs) zero t h = absurd cc
 none_published (spec ∷ specs) (suc c) t h = none_published specs c t h
 
+fit_first : (o : Opening) → FitsOpening o → Fit o (begin o)
+fit_first o small = record {
+  layers = small.layers;
+  jobs = omega arith;
+  slots = tt;
+  specs = spec_first o.canvases;
+  published = λ c there t h. none_published o.canvases c t h;
+}
+
 pub legal_acts_fit : LegalActsFit
-legal_acts_fit o journal small legal =
-    acts_fit o (begin o) journal small (record {
-      layers = small.layers;
-      jobs = omega arith;
-      slots = tt;
-      specs = spec_first o.canvases;
-      published = λ c there t h. none_published o.canvases c t h;
-    }) legal
+legal_acts_fit o journal small legal = acts_fit o (begin o) journal small (fit_first o small) legal
+
+fit_more : (o : Opening) (s : State) (rest : List Entry) → Fit o s → LegalFrom s rest → Fit o (fold after s rest)
+fit_more o s [] fit legal = fit
+fit_more o s (entry ∷ rest) fit legal =
+    fit_more o (after s entry) rest (fit_one o s entry.caller entry.act fit legal.0) legal.1
+
+pub jobs_have_few_slots : JobsHaveFewSlots
+jobs_have_few_slots o journal small legal = (fit_more o (begin o) journal (fit_first o small) legal).slots
+
+-- ---- verdicts
+
+judged : (a b c d e f : Bool)
+    → first_refusal ((a, error.UnknownLayer) ∷ (b, error.UnknownFeature) ∷ (c, error.WrongKind) ∷ (d, error.DuplicateId)
+    ∷ (e, error.Limit) ∷ (f, error.BadPlace) ∷ [])
+    ≡ Some error.NoMemory → ⊥
+judged true b c d e f h = absurd cc
+judged false true c d e f h = absurd cc
+judged false false true d e f h = absurd cc
+judged false false false true e f h = absurd cc
+judged false false false false true f h = absurd cc
+judged false false false false false true h = absurd cc
+judged false false false false false false h = absurd cc
+
+never_memory : (p : Project) (k : ℕ) (e : Edit) → verdict p k e ≡ Some error.NoMemory → ⊥
+unfolding verdict
+never_memory p k e h =
+    judged (lacks_layer p.layers e) (lacks_feature p.layers e) (is_wrong_kind p.layers e) (is_duplicate p.layers e)
+    (passes_limit p.layers k e) (is_bad_place p.layers e) h
+
+judged_one : (s : State) (who : ℕ) (a : Act) → Allows s who a → IsJudged a
+judged_one s who (act.Edit e v) allowed = λ h. never_memory s.project s.accepted e (sym allowed ∙ h)
+judged_one s who (act.View c view) allowed = tt
+judged_one s who (act.Start c j) allowed = tt
+judged_one s who (act.Look j at hit) allowed = tt
+judged_one s who (act.Deliver j at fate) allowed = tt
+judged_one s who (act.Compose j) allowed = tt
+judged_one s who (act.Finish j) allowed = tt
+judged_one s who (act.Fail j) allowed = tt
+judged_one s who (act.Cancel j) allowed = tt
+judged_one s who (act.Preview j bits) allowed = tt
+judged_one s who (act.Save c j) allowed = tt
+
+judged_all : (s : State) (rest : List Entry) → LegalFrom s rest → AllByRecursion (λ (entry : Entry). IsJudged entry.act) rest
+judged_all s [] legal = tt
+judged_all s (entry ∷ rest) legal = (judged_one s entry.caller entry.act legal.0, judged_all (after s entry) rest legal.1)
+
+pub no_memory_never_stands : NoMemoryNeverStands
+no_memory_never_stands o journal legal = judged_all (begin o) journal legal

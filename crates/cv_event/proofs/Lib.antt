@@ -1,11 +1,13 @@
 -- Lemmas on journals, for the proofs of all crates.
 pub mod WorkedJournals
+pub mod WorkedCanvases
 pub mod JobLemmas
 pub mod EndLemmas
 pub mod TakenLemmas
 pub mod SlotLemmas
 pub mod CacheLemmas
 pub mod PresentLemmas
+pub mod PaintedLemmas
 pub mod TaskLemmas
 pub mod LineLemmas
 pub mod ReadingLemmas
@@ -14,3 +16,7 @@ pub mod ShownLemmas
 pub mod PanLemmas
 pub mod DueLemmas
 pub mod DistinctLemmas
+pub mod FitLemmas
+pub mod NumberLemmas
+pub mod HitLemmas
+pub mod FateLemmas

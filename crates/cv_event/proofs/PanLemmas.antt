@@ -131,14 +131,19 @@ pan_self v alike =
     pan_is v v
     ∙ λ i. alike i && (none_filled (2 * natural v.u) v.lx2 i && none_filled (2 * natural v.u) v.ty2 i)
 
-view_pan : (a b : PixelGrid) → is_view a b ≡ true → is_pan a b ≡ true
-view_pan a b h =
+pub view_same : (a b : PixelGrid) → is_view a b ≡ true → a ≡ b
+view_same a b h =
     let parts = and_parts (are_alike a b) _ h in
     let corner = and_parts (int_eq a.lx2 b.lx2) (int_eq a.ty2 b.ty2) parts.1 in
     let left = (Decides-int_eq a.lx2 b.lx2).0 corner.0 in
     let top = (Decides-int_eq a.ty2 b.ty2).0 corner.1 in
     let size = alike_is a b parts.0 in
-    let same : a ≡ b = λ i. record { lx2 = left i; ty2 = top i; u = size.0 i; w = size.1 i; h = size.2 i } in
+    λ i. record { lx2 = left i; ty2 = top i; u = size.0 i; w = size.1 i; h = size.2 i }
+
+view_pan : (a b : PixelGrid) → is_view a b ≡ true → is_pan a b ≡ true
+view_pan a b h =
+    let parts = and_parts (are_alike a b) _ h in
+    let same = view_same a b h in
     ap (λ v. is_pan v b) same ∙ pan_self b (ap (λ v. are_alike v b) (sym same) ∙ parts.0)
 
 -- ---- a cache

@@ -1,7 +1,7 @@
--- What stands in a cache was painted of the present parts of its layer.
+-- Untouched slots of jobs without end show what the present project has, and what an act leaves in a cache.
 use Rattle.std.proofs.Common.{◌≡◌, ◌∙◌, sym, ap, refl, ℕ, zero, suc, ◌==◌, Bool, true, false, not, cond, ◌&&◌, ◌||◌}
 use Rattle.std.proofs.Common.{List, [], ◌∷◌, ◌++◌, map, filter, find, take, Option, Some, None, is_some, slice_get}
-use Rattle.std.proofs.Common.{option_map, option_and_then, option_to_list, IsSomeAnd, fold, subst}
+use Rattle.std.proofs.Common.{option_map, option_to_list, subst}
 use Rattle.std.proofs.Common.{if◌then◌else◌}
 use Rattle.std.specs.List.{AllByRecursion}
 use Rattle.std.specs.Option.{option_or, option_map_or}
@@ -16,30 +16,25 @@ use Rattle.cv_model.specs.Edits.{step, touches_any}
 use Rattle.cv_model.proofs.LawLemmas.{untouched_parts_stay}
 use Rattle.cv_event.specs.declared.entry.Act.{Act}
 use Rattle.cv_event.specs.declared.entry.Act.TheVariants as act
-use Rattle.cv_event.specs.declared.entry.Entry.{Entry}
 use Rattle.cv_event.specs.declared.entry.Fate.{Fate}
 use Rattle.cv_event.specs.declared.entry.Fate.TheVariants.{Stored, Kept, Dropped}
 use Rattle.cv_event.specs.declared.entry.How.{How}
 use Rattle.cv_event.specs.declared.entry.How.TheVariants.{Finished, Cancelled, NoMemory}
 use Rattle.cv_event.specs.declared.slot.Slot.{Slot}
 use Rattle.cv_event.specs.declared.slot.Standing.{Standing}
-use Rattle.cv_event.specs.declared.slot.Standing.TheVariants.{Missed}
 use Rattle.cv_event.specs.States.{Job, Cached, Canvas, State, change_at, job_in, change_job, view_on, is_of}
-use Rattle.cv_event.specs.States.{drop_first, to_front, put_front, stays, slot_edited, job_edited, keeps_cache}
+use Rattle.cv_event.specs.States.{drop_first, to_front, put_front, stays, slot_edited, job_edited}
 use Rattle.cv_event.specs.States.{with_end, cancelled_on, new_slot, new_job, started, looked, delivered}
-use Rattle.cv_event.specs.States.{slot_stands, stands_at, image_of_slot, composed_by, edit_made, did, after}
-use Rattle.cv_event.specs.States.{new_canvas, begin}
-use Rattle.cv_event.specs.Legality.{shows, is_fresh, on_canvas, is_taken, fate_of, Allows, LegalFrom}
-use Rattle.cv_event.specs.Histories.{cached, capacity_on, image_on, cache_behind, IsPainted}
-use Rattle.cv_event.specs.Laws.{CachedImagesArePresent}
-use Rattle.cv_event.proofs.JobLemmas.{does, after_one}
-use Rattle.cv_event.proofs.EndLemmas.{IsFixed, fixed_one}
+use Rattle.cv_event.specs.States.{slot_stands, stands_at, composed_by, edit_made, did}
+use Rattle.cv_event.specs.States.{new_canvas}
+use Rattle.cv_event.specs.Legality.{shows, is_fresh, on_canvas, is_taken, fate_of}
+use Rattle.cv_event.specs.Histories.{cached, capacity_on, image_on, cache_behind}
+use Rattle.cv_event.proofs.EndLemmas.{IsFixed}
 use Rattle.cv_event.proofs.TakenLemmas.{project_one}
-use Rattle.cv_event.proofs.CacheLemmas.{cache_of_one_canvas}
 
 -- ---- lists
 
-all_map : {A B : Type 0} (P : A → Type 0) (Q : B → Type 0) (f : A → B) → ((x : A) → P x → Q (f x)) → (xs : List A) →
+pub all_map : {A B : Type 0} (P : A → Type 0) (Q : B → Type 0) (f : A → B) → ((x : A) → P x → Q (f x)) → (xs : List A) →
     AllByRecursion P xs → AllByRecursion Q (map f xs)
 all_map P Q f keeps [] h = tt
 all_map P Q f keeps (x ∷ xs) h = (keeps x h.0, all_map P Q f keeps xs h.1)
@@ -49,18 +44,18 @@ pub all_same : {A : Type 0} (P Q : A → Type 0) → ((x : A) → P x → Q x) �
 all_same P Q keeps [] h = tt
 all_same P Q keeps (x ∷ xs) h = (keeps x h.0, all_same P Q keeps xs h.1)
 
-all_change : {A : Type 0} (P : A → Type 0) (f : A → A) → ((x : A) → P x → P (f x)) → (xs : List A) (i : ℕ) →
+pub all_change : {A : Type 0} (P : A → Type 0) (f : A → A) → ((x : A) → P x → P (f x)) → (xs : List A) (i : ℕ) →
     AllByRecursion P xs → AllByRecursion P (change_at i f xs)
 all_change P f keeps [] i h = tt
 all_change P f keeps (x ∷ xs) zero h = (keeps x h.0, h.1)
 all_change P f keeps (x ∷ xs) (suc i) h = (h.0, all_change P f keeps xs i h.1)
 
-all_more : {A : Type 0} (P : A → Type 0) (xs ys : List A) → AllByRecursion P xs → AllByRecursion P ys →
+pub all_more : {A : Type 0} (P : A → Type 0) (xs ys : List A) → AllByRecursion P xs → AllByRecursion P ys →
     AllByRecursion P (xs ++ ys)
 all_more P [] ys h g = g
 all_more P (x ∷ xs) ys h g = (h.0, all_more P xs ys h.1 g)
 
-all_at : {A : Type 0} (P : A → Type 0) (xs : List A) (i : ℕ) (x : A) → AllByRecursion P xs → slice_get xs i ≡ Some x
+pub all_at : {A : Type 0} (P : A → Type 0) (xs : List A) (i : ℕ) (x : A) → AllByRecursion P xs → slice_get xs i ≡ Some x
     → P x
 all_at P [] i x h is = absurd cc
 all_at P (y ∷ ys) zero x h is = let same : y ≡ x = cc in subst P same h.0
@@ -109,20 +104,20 @@ deps_by_parts : (d : List ℕ) (layers : List Layer) (o : Option Core) → optio
 deps_by_parts d layers None = refl
 deps_by_parts d layers (Some own) = refl
 
-deps_same : (p q : Project) (id : ℕ) → parts p id ≡ parts q id → deps p id ≡ deps q id
+pub deps_same : (p q : Project) (id : ℕ) → parts p id ≡ parts q id → deps p id ≡ deps q id
 deps_same p q id same =
     deps_by_parts (id ∷ []) p.layers (core_in p.layers id)
     ∙ ap (λ o. option_map_or (λ (x : Parts). deps_of x.own) o (id ∷ [])) same
     ∙ sym (deps_by_parts (id ∷ []) q.layers (core_in q.layers id))
 
 -- a slot of a job with this project isn't touched, or shows what the present project has
-abbrev IsFreshSlot : Project → Project → Slot → Type 0
+abbrev pub IsFreshSlot : Project → Project → Slot → Type 0
 IsFreshSlot present taken slot = slot.touched ≡ false → parts taken slot.layer ≡ parts present slot.layer
 
 abbrev pub IsFreshJob : Project → Job → Type 0
 IsFreshJob present job = job.ended ≡ None → AllByRecursion (IsFreshSlot present job.project) job.slots
 
-neither : (a b : Bool) → (a || b) ≡ false → (a ≡ false) × (b ≡ false)
+pub neither : (a b : Bool) → (a || b) ≡ false → (a ≡ false) × (b ≡ false)
 neither true b h = absurd (false≢true (sym h))
 neither false b h = (refl, h)
 
@@ -214,11 +209,11 @@ fresh_one s who (act.Save c j) h = h
 -- ---- images
 
 -- an image that an act leaves
-abbrev leaves : Project → Act → Cached → Bool
+abbrev pub leaves : Project → Act → Cached → Bool
 leaves project (act.Edit e None) image = stays project e image
 leaves project _ image = true
 
-not_touched : (b : Bool) → not b ≡ true → b ≡ false
+pub not_touched : (b : Bool) → not b ≡ true → b ≡ false
 not_touched true h = absurd (false≢true h)
 not_touched false h = refl
 
@@ -227,7 +222,7 @@ parts_made : (s : State) (e : Edit) (v : Option EditError) (image : Cached) → 
 parts_made s e None image h = sym (untouched_parts_stay s.project e image.layer (not_touched _ h))
 parts_made s e (Some error) image h = refl
 
-parts_one : (s : State) (who : ℕ) (a : Act) (image : Cached) → leaves s.project a image ≡ true → parts s.project
+pub parts_one : (s : State) (who : ℕ) (a : Act) (image : Cached) → leaves s.project a image ≡ true → parts s.project
     image.layer ≡ parts (did s who a).project image.layer
 parts_one s who (act.Edit e v) image h = parts_made s e v image h
 parts_one s who (act.View c view) image h = refl
@@ -247,23 +242,12 @@ project_fixed = record { slots = λ job slots. refl; composer = λ job o. refl; 
 pub view_fixed : IsFixed (λ (job : Job). job.view)
 view_fixed = record { slots = λ job slots. refl; composer = λ job o. refl; ended = λ job o. refl }
 
-painted_one : (s : State) (who : ℕ) (a : Act) (image : Cached) → Allows s who a → leaves s.project a image ≡ true →
-    IsPainted s image → IsPainted (did s who a) image
-painted_one s who a image allowed left was = record {
-  number = was.number;
-  job = does was.number who a was.job;
-  job_is = after_one s who a was.number was.job allowed was.job_is;
-  view_is = was.view_is ∙ sym (fixed_one (λ (job : Job). job.view) view_fixed was.number who a was.job);
-  parts_are = ap (λ p. parts p image.layer) (fixed_one (λ (job : Job). job.project) project_fixed was.number who a
-      was.job) ∙ was.parts_are ∙ parts_one s who a image left;
-}
-
 -- what is stored is of a fresh slot
-both_true : (a b : Bool) → (a && b) ≡ true → (a ≡ true) × (b ≡ true)
+pub both_true : (a b : Bool) → (a && b) ≡ true → (a ≡ true) × (b ≡ true)
 both_true true b h = (refl, h)
 both_true false b h = absurd (false≢true h)
 
-stored_fresh : (s : State) (job : Job) (slot : Slot) → Stored ≡ fate_of s job slot → (job.ended ≡ None) ×
+pub stored_fresh : (s : State) (job : Job) (slot : Slot) → Stored ≡ fate_of s job slot → (job.ended ≡ None) ×
     (slot.touched ≡ false)
 stored_fresh s job slot h = by job.ended refl h
   where
@@ -283,47 +267,12 @@ stored_fresh s job slot h = by job.ended refl h
     by None is h = (is, on (slice_get s.canvases job.canvas) (kept (on_canvas is_taken s job slot) h))
     by (Some g) is h = absurd cc
 
-job_of : (P : Job → Type 0) (jobs : List Job) (j : ℕ) (job : Job) → AllByRecursion P jobs → job_in jobs j ≡ Some job
+pub job_of : (P : Job → Type 0) (jobs : List Job) (j : ℕ) (job : Job) → AllByRecursion P jobs → job_in jobs j ≡ Some job
     → P job
 job_of P jobs zero job h is = absurd cc
 job_of P jobs (suc k) job h is = all_at P jobs k job h is
 
--- the image of a slot whose delivery is stored
-painted_stored : (s : State) (who j at : ℕ) (image : Cached) → AllFresh s → Allows s who (act.Deliver j at Stored)
-    → (c : ℕ) → image_on s c j at ≡ Some image → IsPainted s image
-painted_stored s who j at image fresh allowed c is = by (job_in s.jobs j) refl allowed is
-  where
-    of_slot : (job : Job) → job_in s.jobs j ≡ Some job → (o : Option Slot) → slice_get job.slots at ≡ o
-        → IsSomeAnd o (λ slot. (slot.standing ≡ Missed who) × (Stored ≡ fate_of s job slot))
-        → (b : Bool) → (if b then option_map (image_of_slot job) o else None) ≡ Some image → IsPainted s image
-    of_slot job there None at_is nothing b h = absurd nothing
-    of_slot job there (Some slot) at_is allowed false h = absurd cc
-    of_slot job there (Some slot) at_is allowed true h =
-        let same : image_of_slot job slot ≡ image = cc in
-        let live = stored_fresh s job slot allowed.1 in
-        let slot_fresh = all_at (IsFreshSlot s.project job.project) job.slots at slot (job_of (IsFreshJob s.project)
-        s.jobs j job fresh there live.0) at_is in
-        subst (IsPainted s) same (record {
-          number = j;
-          job = job;
-          job_is = there;
-          view_is = refl;
-          parts_are =
-              slot_fresh live.1;
-        })
-
-    by : (o : Option Job) → job_in s.jobs j ≡ o → IsSomeAnd o (λ (job : Job). IsSomeAnd (slice_get job.slots at) (λ
-        slot. (slot.standing ≡ Missed who) × (Stored ≡ fate_of s job slot)))
-        → option_and_then (λ (job : Job). if job.canvas == c then option_map (image_of_slot job) (slice_get job.slots
-        at) else None) o ≡ Some image
-        → IsPainted s image
-    by None there nothing h = absurd nothing
-    by (Some job) there allowed h = of_slot job there (slice_get job.slots at) refl allowed (job.canvas == c) h
-
 -- ---- a cache
-
-abbrev pub AllPainted : State → ℕ → Type 0
-AllPainted s c = AllByRecursion (IsPainted s) (cached s c)
 
 fronted : (P : Cached → Type 0) (o : Option Cached) (cache : List Cached) → AllByRecursion P cache → AllByRecursion P
     (option_map_or (λ (image : Cached). to_front image.layer cache) o cache)
@@ -341,18 +290,11 @@ put_in P n (Some image) cache new h = all_take P n _ (
       h,
 )
 
-emptied : (P : Cached → Type 0) (a b : Bool) (cache : List Cached) → AllByRecursion P cache → AllByRecursion P (if a
+pub emptied : (P : Cached → Type 0) (a b : Bool) (cache : List Cached) → AllByRecursion P cache → AllByRecursion P (if a
     then (if b then cache else []) else cache)
 emptied P true true cache h = h
 emptied P true false cache h = tt
 emptied P false b cache h = h
-
--- what stays behind an act, each image painted of the parts behind it
-behind_edit : (s : State) (who c : ℕ) (e : Edit) (v : Option EditError) → Allows s who (act.Edit e v) → AllPainted s
-    c → AllByRecursion (IsPainted (did s who (act.Edit e v))) (cache_behind s c (act.Edit e v) (cached s c))
-behind_edit s who c e None allowed h = all_filter (IsPainted s) (IsPainted (did s who (act.Edit e None))) (stays
-    s.project e) (λ image left was. painted_one s who (act.Edit e None) image allowed left was) (cached s c) h
-behind_edit s who c e (Some error) allowed h = h
 
 pub behind_looked : (P : Cached → Type 0) (s : State) (c j at : ℕ) (hit : Bool) → AllByRecursion P (cached s c) →
     AllByRecursion P (cache_behind s c (act.Look j at hit) (cached s c))
@@ -366,50 +308,9 @@ behind_delivered P s c j at Stored new h = put_in P (capacity_on s c) (image_on 
 behind_delivered P s c j at Kept new h = h
 behind_delivered P s c j at Dropped new h = h
 
-painted_behind : (s : State) (who c : ℕ) (a : Act) → Allows s who a → AllFresh s → AllPainted s c → AllByRecursion
-    (IsPainted (did s who a)) (cache_behind s c a (cached s c))
-painted_behind s who c (act.Edit e v) allowed fresh h = behind_edit s who c e v allowed h
-painted_behind s who c (act.View k view) allowed fresh h =
-    emptied _ (k == c) (keeps_cache (view_on s c) view) (cached s c)
-    (all_same (IsPainted s) _ (λ image was. painted_one s who (act.View k view) image allowed refl was) (cached s c)
-    h)
-painted_behind s who c (act.Start k j) allowed fresh h =
-    all_same (IsPainted s) _ (λ image was. painted_one s who (act.Start k j) image allowed refl was) (cached s c) h
-painted_behind s who c (act.Look j at hit) allowed fresh h =
-    behind_looked (IsPainted (did s who (act.Look j at hit))) s c j at hit
-    (all_same (IsPainted s) _ (λ image was. painted_one s who (act.Look j at hit) image allowed refl was) (cached s
-    c) h)
-painted_behind s who c (act.Deliver j at fate) allowed fresh h =
-    behind_delivered (IsPainted (did s who (act.Deliver j at fate))) s c j at fate
-    (λ is image there. painted_one s who (act.Deliver j at fate) image allowed refl
-    (painted_stored s who j at image fresh (subst (λ f. Allows s who (act.Deliver j at f)) is allowed) c there))
-    (all_same (IsPainted s) _ (λ image was. painted_one s who (act.Deliver j at fate) image allowed refl was) (cached
-    s c) h)
-painted_behind s who c (act.Compose j) allowed fresh h =
-    all_same (IsPainted s) _ (λ image was. painted_one s who (act.Compose j) image allowed refl was) (cached s c) h
-painted_behind s who c (act.Finish j) allowed fresh h =
-    all_same (IsPainted s) _ (λ image was. painted_one s who (act.Finish j) image allowed refl was) (cached s c) h
-painted_behind s who c (act.Fail j) allowed fresh h =
-    all_same (IsPainted s) _ (λ image was. painted_one s who (act.Fail j) image allowed refl was) (cached s c) h
-painted_behind s who c (act.Cancel j) allowed fresh h =
-    all_same (IsPainted s) _ (λ image was. painted_one s who (act.Cancel j) image allowed refl was) (cached s c) h
-painted_behind s who c (act.Preview j bits) allowed fresh h = h
-painted_behind s who c (act.Save k j) allowed fresh h = h
-
-painted_more : (s : State) (rest : List Entry) (c : ℕ) → LegalFrom s rest → AllFresh s → AllPainted s c → AllPainted
-    (fold after s rest) c
-painted_more s [] c legal fresh h = h
-painted_more s (entry ∷ rest) c legal fresh h =
-    painted_more (after s entry) rest c legal.1 (fresh_one s entry.caller entry.act fresh)
-    (subst (AllByRecursion (IsPainted (after s entry))) (sym (cache_of_one_canvas s entry.caller c entry.act))
-    (painted_behind s entry.caller c entry.act legal.0 fresh h))
-
 -- a cache is empty at first
 pub empty_at : (P : Cached → Type 0) (specs : List CanvasSpec) (c : ℕ) → AllByRecursion P (option_map_or (λ (k : Canvas).
     k.cache) (slice_get (map new_canvas specs) c) [])
 empty_at P [] c = tt
 empty_at P (spec ∷ specs) zero = tt
 empty_at P (spec ∷ specs) (suc c) = empty_at P specs c
-
-pub cached_images_are_present : CachedImagesArePresent
-cached_images_are_present o journal c legal = painted_more (begin o) journal c legal tt (empty_at (IsPainted (begin o)) o.canvases c)

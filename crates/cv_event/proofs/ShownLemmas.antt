@@ -1,37 +1,31 @@
 -- What previews list, and what is published.
 use Rattle.std.proofs.Common.{◌≡◌, ◌∙◌, sym, ap, refl, ℕ, zero, suc, ◌+◌, ◌*◌, ◌/◌, ◌%◌, ◌≤◌, ◌==◌, Bool, true, false}
-use Rattle.std.proofs.Common.{not, ◌&&◌, ◌||◌, List, [], ◌∷◌, length, map, Option, Some, None, slice_get, option_map}
+use Rattle.std.proofs.Common.{List, [], ◌∷◌, length, map, Option, Some, None, slice_get, option_map}
 use Rattle.std.proofs.Common.{filter, option_and_then, is_some, IsSomeAnd, fold, arith, if◌then◌else◌}
-use Rattle.std.specs.List.{list_any}
 use Rattle.std.specs.Option.{option_or, option_map_or}
-use Rattle.std.proofs.lemmas.Bool.Decides.{nat_tests}
 use Rattle.std.proofs.lemmas.Bool.{false≢true}
 use Rattle.cv_model.specs.declared.edit.Edit.{Edit}
 use Rattle.cv_model.specs.declared.edit.EditError.{EditError}
 use Rattle.cv_model.specs.declared.project.CanvasSpec.{CanvasSpec}
 use Rattle.cv_model.specs.Views.{PixelGrid}
-use Rattle.cv_model.specs.Layers.{Layer, slots}
 use Rattle.cv_event.specs.declared.entry.Act.{Act}
 use Rattle.cv_event.specs.declared.entry.Act.TheVariants as act
 use Rattle.cv_event.specs.declared.entry.Entry.{Entry}
 use Rattle.cv_event.specs.declared.entry.Fate.{Fate}
 use Rattle.cv_event.specs.declared.entry.Fate.TheVariants.{Stored, Kept, Dropped}
 use Rattle.cv_event.specs.declared.slot.Slot.{Slot}
-use Rattle.cv_event.specs.declared.slot.Standing.{Standing}
-use Rattle.cv_event.specs.declared.slot.Standing.TheVariants.{Open, Missed, Ready, Lost}
 use Rattle.cv_event.specs.States.{Job, Cached, Canvas, State, change_at, job_in, view_on, canvas_edited}
-use Rattle.cv_event.specs.States.{stays, canvas_viewed, new_slot, new_job, started, looked, delivered, with_cache}
+use Rattle.cv_event.specs.States.{stays, canvas_viewed, started, with_cache}
 use Rattle.cv_event.specs.States.{canvases_looked, canvases_delivered, taken_of, publishes, canvases_finished}
 use Rattle.cv_event.specs.States.{served, stored, edit_made, did, after, new_canvas, begin, replay}
 use Rattle.cv_event.specs.Legality.{is_ready, ready_from, ready_bits, LegalFrom}
 use Rattle.cv_event.specs.Lines.{set_bits, listed_slots}
-use Rattle.cv_event.specs.Laws.{entry_of, started_between}
+use Rattle.cv_event.specs.Laws.{entry_of}
 use Rattle.cv_event.specs.ShownLaws.{PreviewListsReady, published_on}
 use Rattle.cv_event.specs.ShownLaws.{finished_by, last_finished, PublishedIsLastFinished}
-use Rattle.cv_event.proofs.JobLemmas.{at_map, job_does, job_after, began}
+use Rattle.cv_event.proofs.JobLemmas.{job_does, job_after}
 use Rattle.cv_event.proofs.EndLemmas.{or_more, or_none, fixed_more, IsFixed}
-use Rattle.cv_event.proofs.SlotLemmas.{changed, edit_part, on_slot, slot_does, slot_one, slots_none, same_some}
-use Rattle.cv_event.proofs.SlotLemmas.{some_none}
+use Rattle.cv_event.proofs.SlotLemmas.{changed}
 use Rattle.cv_event.proofs.TakenLemmas.{seen_same, seen_map, cache_changed, taken_fixed}
 
 -- ---- previews
@@ -127,13 +121,13 @@ seen_one part seen s who c (act.Preview j bits) = refl
 seen_one part seen s who c (act.Save k j) = refl
 
 -- a canvas stays
-abbrev presence : Canvas → Option ℕ
+abbrev pub presence : Canvas → Option ℕ
 presence k = Some 0
 
-presence_seen : IsSeen presence
+pub presence_seen : IsSeen presence
 presence_seen = record { viewed = λ view k. refl; cache = λ cache k. refl }
 
-abbrev IsThere : State → ℕ → Type 0
+abbrev pub IsThere : State → ℕ → Type 0
 IsThere s c = option_and_then presence (slice_get s.canvases c) ≡ Some 0
 
 published_seen : IsSeen (λ (k : Canvas). k.published)
@@ -215,7 +209,7 @@ publish_finish s rest who c j legal there = by (job_in s.jobs j) refl legal.0
         (job_after s entries j job legal is) (fixed_more (taken_of j) (taken_fixed j) j entries job)
         (fixed_more (λ (job : Job). job.canvas) canvas_fixed j entries job)))
 
-publish_one : (s : State) (rest : List Entry) (who c : ℕ) (a : Act) → LegalFrom s (entry_of who a ∷ rest)
+pub publish_one : (s : State) (rest : List Entry) (who c : ℕ) (a : Act) → LegalFrom s (entry_of who a ∷ rest)
     → IsThere s c
     → published_on (did s who a) c
     ≡ option_or (finished_by (fold after s (entry_of who a ∷ rest)) c a) (published_on s c)

@@ -33,10 +33,10 @@ use Rattle.cv_event.specs.Legality.{Allows, LegalFrom}
 
 -- ---- openings
 
-abbrev filled : Option Rgba → Style
+abbrev pub filled : Option Rgba → Style
 filled fill = style.Single (record { fill = fill; pen = None; marker = None })
 
-abbrev grey : ℕ → Option Rgba
+abbrev pub grey : ℕ → Option Rgba
 grey n = Some (record { r = n; g = n; b = n; a = 255 })
 
 -- a position in whole map units
@@ -44,14 +44,14 @@ abbrev corner : ℕ → ℕ → Position
 corner x y = record { x = pos (1000000 * x); y = pos (1000000 * y) }
 
 -- a rectangle in whole map units
-abbrev rectangle : ℕ → ℕ → ℕ → ℕ → GeometryLists
+abbrev pub rectangle : ℕ → ℕ → ℕ → ℕ → GeometryLists
 rectangle l b r t = record {
   points = [];
   lines = [];
   polygons = ((corner l b ∷ corner r b ∷ corner r t ∷ corner l t ∷ corner l b ∷ []) ∷ []) ∷ [];
 }
 
-abbrev layer : ℕ → Blend → Option ℕ → Option Rgba → Bool → ScaleBounds → GeometryLists → Layer
+abbrev pub layer : ℕ → Blend → Option ℕ → Option Rgba → Bool → ScaleBounds → GeometryLists → Layer
 layer id blend mask fill visible scales geometry = record {
   core = record {
     id = id;
@@ -68,7 +68,7 @@ layer id blend mask fill visible scales geometry = record {
 }
 
 -- a square above a larger one that shows where a mask does, whose own layer is hidden
-abbrev two : ScaleBounds → Project
+abbrev pub two : ScaleBounds → Project
 two scales = record {
   background = record { r = 255; g = 255; b = 255 };
   layers = layer 2 Multiply None (grey 100) true scales (rectangle 1 1 3 3)
@@ -77,13 +77,13 @@ two scales = record {
 }
 
 -- with one canvas of four by four pixels and so many bytes of cache
-abbrev opened : ScaleBounds → ℕ → Opening
+abbrev pub opened : ScaleBounds → ℕ → Opening
 opened scales cache = record {
   project = two scales;
   canvases = (record { w = 4; h = 4; capacity = capacity_of 4 4 cache }) ∷ [];
 }
 
-abbrev two_layers : Opening
+abbrev pub two_layers : Opening
 two_layers = opened all_scales 1024
 
 abbrev no_layers : Opening
@@ -93,13 +93,13 @@ no_layers = record {
 }
 
 -- a view of four by four pixels from this left edge, in doubled millionths
-abbrev view_from : ℕ → PixelGrid
+abbrev pub view_from : ℕ → PixelGrid
 view_from left = record { lx2 = pos left; ty2 = pos 8000000; u = pos 1000000; w = 4; h = 4 }
 
-abbrev small_view : PixelGrid
+abbrev pub small_view : PixelGrid
 small_view = record { lx2 = pos 0; ty2 = pos 2000000; u = pos 1000000; w = 2; h = 1 }
 
-first_is_view : IsView (view_from 0)
+pub first_is_view : IsView (view_from 0)
 first_is_view = record { unit = omega arith; wide = omega arith; high = omega arith; left = (omega arith, omega arith); right = (omega arith, omega arith); top = (omega arith, omega arith); bottom = (omega arith, omega arith) }
 
 panned_is_view : IsView (view_from 2000000)
@@ -113,15 +113,15 @@ small_is_view = record { unit = omega arith; wide = omega arith; high = omega ar
 
 -- ---- journals of caller 0
 
-abbrev own : List Act → List Entry
+abbrev pub own : List Act → List Entry
 own acts = map (λ a. record { caller = 0; act = a }) acts
 
 -- these acts are legal behind those
-abbrev Legal : Opening → List Act → List Act → Type 0
+abbrev pub Legal : Opening → List Act → List Act → Type 0
 Legal opening past acts = LegalFrom (replay opening (own past)) (own acts)
 
 -- this act isn't allowed behind those
-abbrev Refused : Opening → List Act → Act → Type 0
+abbrev pub Refused : Opening → List Act → Act → Type 0
 Refused opening past a = Allows (replay opening (own past)) 0 a → ⊥
 
 -- ---- no layers
@@ -138,16 +138,16 @@ save_before_finish h = h
 
 -- ---- two layers: the first job, and a second one of the same view
 
-abbrev viewed : List Act
+abbrev pub viewed : List Act
 viewed = View 0 (view_from 0) ∷ Start 0 1 ∷ []
 
-abbrev painted : List Act
+abbrev pub painted : List Act
 painted = Look 1 0 false ∷ Deliver 1 0 Stored ∷ Look 1 1 false ∷ Deliver 1 1 Stored ∷ []
 
-abbrev finished : List Act
+abbrev pub finished : List Act
 finished = viewed ++ painted ++ Compose 1 ∷ Finish 1 ∷ []
 
-abbrev again : List Act
+abbrev pub again : List Act
 again = Start 0 2 ∷ Look 2 0 true ∷ Look 2 1 true ∷ Compose 2 ∷ Finish 2 ∷ Save 0 2 ∷ []
 
 pub first_job_legal : Legal two_layers [] finished
@@ -190,7 +190,7 @@ other_caller h = absurd cc
 -- ---- an edit of the mask while a job runs: what depends on it is kept, and not stored
 
 -- an edit that is accepted
-abbrev accepted : Edit → Act
+abbrev pub accepted : Edit → Act
 accepted e = act.Edit e None
 
 abbrev mask_emptied : List Act
@@ -263,7 +263,7 @@ opacity_misses h = absurd cc
 
 -- ---- a cancelled job
 
-abbrev cancelled : List Act
+abbrev pub cancelled : List Act
 cancelled = viewed ++ Look 1 0 false ∷ Cancel 1 ∷ []
 
 pub cancelled_legal : Legal two_layers viewed (Look 1 0 false ∷ Cancel 1 ∷ Deliver 1 0 Dropped ∷ [])
@@ -420,7 +420,7 @@ unmasked_stored h = absurd cc
 
 -- ---- capacities
 
-abbrev no_cache : Opening
+abbrev pub no_cache : Opening
 no_cache = opened all_scales 63
 
 pub no_cache_legal : Legal no_cache viewed (Look 1 0 false ∷ Deliver 1 0 Kept ∷ Look 1 1 false ∷ Deliver 1 1 Kept ∷ [])
@@ -429,7 +429,7 @@ no_cache_legal = ((refl, refl), ((refl, refl), ((refl, refl), ((refl, refl), tt)
 pub no_cache_stored : Refused no_cache (viewed ++ Look 1 0 false ∷ []) (Deliver 1 0 Stored)
 no_cache_stored h = absurd cc
 
-abbrev one_image : Opening
+abbrev pub one_image : Opening
 one_image = opened all_scales 64
 
 pub one_image_legal : Legal one_image finished (Start 0 2 ∷ Look 2 0 false ∷ Deliver 2 0 Stored ∷ Look 2 1 false
@@ -478,7 +478,7 @@ refused_edit_accepted h = absurd cc
 
 -- ---- a preview of a running job
 
-abbrev half_done : List Act
+abbrev pub half_done : List Act
 half_done = viewed ++ Look 1 0 false ∷ Deliver 1 0 Stored ∷ []
 
 pub preview_legal : Legal two_layers half_done (Preview 1 1 ∷ Look 1 1 false ∷ Deliver 1 1 Stored ∷ Compose 1
@@ -500,7 +500,7 @@ composed_too_soon h = absurd cc
 
 -- ---- a layer whose scales leave it out
 
-abbrev scaled : Opening
+abbrev pub scaled : Opening
 scaled = opened (record { least = Some (pos 500000); greatest = Some (pos 750000) }) 1024
 
 pub scaled_legal : Legal scaled viewed (Look 1 0 false ∷ Deliver 1 0 Stored ∷ Compose 1 ∷ Finish 1 ∷ Save 0 1
@@ -566,7 +566,7 @@ unfolding pan_of
 pan_empties h = absurd cc
 
 -- a zoom, and a pan by half a pixel, empty it
-abbrev zoomed : PixelGrid
+abbrev pub zoomed : PixelGrid
 zoomed = record { lx2 = pos 2000000; ty2 = pos 6000000; u = pos 500000; w = 4; h = 4 }
 
 pub zoom_hit : Refused two_layers (finished ++ View 0 zoomed ∷ View 0 (view_from 0) ∷ Start 0 2 ∷ []) (Look 2 0
@@ -581,7 +581,7 @@ half_pixel_hit h = absurd cc
 
 -- ---- a view between a job's start and a delivery
 
-zoomed_is_view : IsView zoomed
+pub zoomed_is_view : IsView zoomed
 zoomed_is_view = record { unit = omega arith; wide = omega arith; high = omega arith; left = (omega arith, omega arith); right = (omega arith, omega arith); top = (omega arith, omega arith); bottom = (omega arith, omega arith) }
 
 -- by one pixel: what is delivered is of an older view, so it is kept, and not stored

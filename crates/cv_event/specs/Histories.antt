@@ -3,12 +3,13 @@
 -- Source: this project's own.
 use Rattle.std.specs.Prelude.{◌≡◌, ℕ, ◌==◌, Bool, true, false, ◌&&◌, if◌then◌else◌, List, []}
 use Rattle.std.specs.Prelude.{◌∷◌, filter, filter_map, Option, Some, None, option_map, option_and_then, slice_get}
+use Rattle.std.specs.Prelude.{is_some}
 use Rattle.std.specs.List.{list_any}
 use Rattle.std.specs.Option.{option_or, option_map_or}
 use Rattle.cv_model.specs.declared.colour.Rgb.{Rgb}
 use Rattle.cv_model.specs.declared.edit.Edit.{Edit}
 use Rattle.cv_model.specs.Views.{PixelGrid}
-use Rattle.cv_model.specs.Layers.{parts}
+use Rattle.cv_model.specs.Layers.{parts, deps}
 use Rattle.cv_model.specs.Pictures.{picture_with}
 use Rattle.cv_model.specs.Rasters.{Raster}
 use Rattle.cv_event.specs.declared.entry.Act.{Act}
@@ -18,8 +19,10 @@ use Rattle.cv_event.specs.declared.entry.Fate.{Fate}
 use Rattle.cv_event.specs.declared.entry.Fate.TheVariants.{Stored, Kept, Dropped}
 use Rattle.cv_event.specs.declared.entry.How.{How}
 use Rattle.cv_event.specs.declared.entry.How.TheVariants.{Finished, Cancelled, NoMemory}
+use Rattle.cv_event.specs.declared.slot.Slot.{Slot}
 use Rattle.cv_event.specs.States.{Taken, Job, Cached, Canvas, State, job_in, view_on, to_front, put_front, stays}
 use Rattle.cv_event.specs.States.{keeps_cache, image_of_slot, taken_of}
+use Rattle.cv_event.specs.Legality.{is_ready}
 
 -- ---- edits and views
 
@@ -41,6 +44,15 @@ view_given c _ = None
 abbrev pub last_view : ℕ → List Entry → Option PixelGrid
 last_view c [] = None
 last_view c (entry ∷ rest) = option_or (last_view c rest) (view_given c entry.act)
+
+-- the job that an act starts
+abbrev pub start_of : Act → Option ℕ
+start_of (act.Start c j) = Some j
+start_of _ = None
+
+-- the jobs that a journal starts, in order
+abbrev pub starts : List Entry → List ℕ
+starts journal = filter_map (λ (entry : Entry). start_of entry.act) journal
 
 -- ---- a job
 
@@ -129,10 +141,19 @@ cache_behind s c (act.Deliver j at Stored) cache =
     option_map_or (λ image. put_front (capacity_on s c) image cache) (image_on s c j at) cache
 cache_behind s c _ cache = cache
 
--- an image was painted for a job, at its view, of what the present project has as the layer's parts
-pub record IsPainted (s : State) (image : Cached) : Type 0 where
+-- an image was painted for a slot of a job on this canvas, which is ready, at the job's view, of the layer's
+-- parts, which the present project has too, and so with the dependencies that the layer has there
+pub record IsPainted (s : State) (c : ℕ) (image : Cached) : Type 0 where
   pub number : ℕ
   pub job : Job
   pub job_is : job_in s.jobs number ≡ Some job
+  pub canvas_is : job.canvas ≡ c
+  pub place : ℕ
+  pub slot : Slot
+  pub slot_is : slice_get job.slots place ≡ Some slot
+  pub layer_is : slot.layer ≡ image.layer
+  pub ready_is : is_ready slot.standing ≡ true
   pub view_is : image.view ≡ job.view
+  pub has_parts : is_some (parts job.project image.layer) ≡ true
   pub parts_are : parts job.project image.layer ≡ parts s.project image.layer
+  pub deps_are : deps job.project image.layer ≡ deps s.project image.layer

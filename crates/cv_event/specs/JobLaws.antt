@@ -1,8 +1,10 @@
--- What jobs show, whose their tasks are, and when one is due: laws, each the clause of a function of its name.
-use Rattle.std.specs.Prelude.{◌≡◌, ◌↔◌, ℕ, ◌==◌, Bool, true, false, not, ◌&&◌, ◌||◌, List, ◌∷◌, length, map}
-use Rattle.std.specs.Prelude.{slice_get, Option, Some, None, option_map, is_some, is_none}
-use Rattle.std.specs.List.{list_any}
+-- What jobs show, whose their tasks are, and when one is due: laws, each the clause of a function of its
+-- name.
+use Rattle.std.specs.Prelude.{◌≡◌, ◌↔◌, ℕ, ◌==◌, Bool, true, false, not, ◌&&◌, ◌||◌, List, length, map}
+use Rattle.std.specs.Prelude.{slice_get, Some, None, option_map, is_some, is_none, nat_eq}
+use Rattle.std.specs.List.{list_any, AllByRecursion, range_with_len}
 use Rattle.std.specs.Option.{option_map_or}
+use Rattle.cv_model.specs.declared.edit.EditError.TheVariants.{NoMemory}
 use Rattle.cv_model.specs.Layers.{Layer, Opening, deps, slots}
 use Rattle.cv_model.specs.Edits.{touches_any}
 use Rattle.cv_event.specs.declared.entry.Act.{Act}
@@ -13,14 +15,38 @@ use Rattle.cv_event.specs.declared.slot.Standing.TheVariants.{Missed}
 use Rattle.cv_event.specs.declared.slot.Task.TheVariants.{Look, Compose}
 use Rattle.cv_event.specs.States.{Job, Canvas, State, job_in, replay}
 use Rattle.cv_event.specs.Legality.{OfJob, OfSlot, is_open, all_ready, task, is_view, fresh, IsLegal}
-use Rattle.cv_event.specs.Histories.{edits, last_view, delivers, composes, some_act}
+use Rattle.cv_event.specs.Histories.{edits, last_view, starts, delivers, composes, some_act}
 use Rattle.cv_event.specs.Laws.{started_between}
 
 -- ---- counts and canvases
 
 -- as many edits count as accepted as stand accepted in the journal
 abbrev pub AcceptedIsCounted : Type 0
-AcceptedIsCounted = (o : Opening) (journal : List Entry) → (replay o journal).accepted ≡ length (edits journal)
+AcceptedIsCounted =
+    (o : Opening) (journal : List Entry) → (replay o journal).accepted ≡ length (edits journal)
+
+-- starts number their jobs 1, 2, .., and there are as many jobs as starts
+abbrev pub JobsAreStarts : Type 0
+JobsAreStarts =
+    (o : Opening) (journal : List Entry) → IsLegal o journal
+    → starts journal ≡ range_with_len 1 (length (replay o journal).jobs)
+
+-- a job of a number is there exactly where a start has the number
+abbrev pub StartedJobsAreThere : Type 0
+StartedJobsAreThere =
+    (o : Opening) (journal : List Entry) (j : ℕ) → IsLegal o journal
+    → is_some (job_in (replay o journal).jobs j) ≡ list_any (nat_eq j) (starts journal)
+
+-- an act's verdict, if it is an edit, isn't want of memory
+abbrev pub IsJudged : Act → Type 0
+IsJudged (act.Edit e v) = v ≡ Some NoMemory → ⊥
+IsJudged _ = Unit {0}
+
+-- want of memory is no entry
+abbrev pub NoMemoryNeverStands : Type 0
+NoMemoryNeverStands =
+    (o : Opening) (journal : List Entry) → IsLegal o journal
+    → AllByRecursion (λ (entry : Entry). IsJudged entry.act) journal
 
 -- the canvases keep the sizes and capacities that they were opened with
 abbrev pub CanvasesStay : Type 0

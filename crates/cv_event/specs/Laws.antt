@@ -1,5 +1,5 @@
--- What holds of legal journals, in the words of their entries: laws, each the clause of a function of its
--- name. A job's own entries are those behind its start.
+-- What holds of legal journals, in the words of their entries, and, of a cache's changes and of tasks, of any
+-- state: laws, each the clause of a function of its name. A job's own entries are those behind its start.
 use Rattle.std.specs.Prelude.{◌≡◌, ℕ, true, false, not, List, ◌∷◌, ◌++◌, length}
 use Rattle.std.specs.Prelude.{slice_get, Some, None, option_map, is_some, is_none, ◌<◌}
 use Rattle.std.specs.List.{list_any, AllByRecursion}
@@ -139,11 +139,11 @@ abbrev pub CacheOfOneCanvas : Type 0
 CacheOfOneCanvas =
     (s : State) (who c : ℕ) (a : Act) → cached (did s who a) c ≡ cache_behind s c a (cached s c)
 
--- what stands in a cache was painted of the present parts of its layer
+-- what stands in a cache was painted for a job on its canvas, of the present parts of its layer
 abbrev pub CachedImagesArePresent : Type 0
 CachedImagesArePresent =
     (o : Opening) (journal : List Entry) (c : ℕ) → IsLegal o journal
-    → AllByRecursion (IsPainted (replay o journal)) (cached (replay o journal) c)
+    → AllByRecursion (IsPainted (replay o journal) c) (cached (replay o journal) c)
 
 -- ---- the task
 

@@ -106,8 +106,8 @@ is_view a b = are_alike a b && (int_eq a.lx2 b.lx2 && int_eq a.ty2 b.ty2)
 abbrev pub shows : Canvas → PixelGrid → Bool
 shows canvas view = option_map_or (is_view view) canvas.view false
 
--- of a job without end: its view is its canvas's present one, and no edit since its start touched a
--- dependency of the slot
+-- of a job without end: its view is its canvas's present one, and no edit that was accepted since its start
+-- touched a dependency of the slot
 abbrev pub is_fresh : Canvas → Job → Slot → Bool
 is_fresh canvas job slot = shows canvas job.view && not slot.touched
 

@@ -9,3 +9,4 @@ pub mod Laws
 pub mod JobLaws
 pub mod ShownLaws
 pub mod ViewLaws
+pub mod HitLaws

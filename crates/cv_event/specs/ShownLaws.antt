@@ -1,6 +1,6 @@
 -- What is shown of jobs: laws, each the clause of a function of its name.
 use Rattle.std.specs.Prelude.{◌≡◌, ℕ, ◌==◌, ◌≤◌, Bool, false, if◌then◌else◌, List, [], ◌∷◌}
-use Rattle.std.specs.Prelude.{length, slice_get, Option, Some, None, option_and_then, IsSome}
+use Rattle.std.specs.Prelude.{length, slice_get, Option, None, option_and_then, IsSome}
 use Rattle.std.specs.Option.{option_map_or, option_or}
 use Rattle.cv_model.specs.Layers.{Opening}
 use Rattle.cv_event.specs.declared.entry.Act.{Act}

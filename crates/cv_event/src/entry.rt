@@ -19,7 +19,7 @@ pub enum How {
 pub enum Fate {
     /// Its slot is ready, and the canvas's cache has it.
     Stored,
-    /// Its slot is ready.
+    /// Its slot is ready, and the cache doesn't take it.
     Kept,
     /// The job had an end.
     Dropped,

@@ -36,7 +36,7 @@ impl Journal {
         }
     }
 
-    /// Sets places aside, so that there are at least `places` in all.
+    /// Sets places aside, so that at least `places` entries more can be put, beside those that are there.
     pub fn reserve(&mut self, places: u64) -> Result<(), NoMemory>
         ensures entries { self.new.entries ≡ self.old.entries }
         ensures kept { self.old.spare ≤ self.new.spare }

@@ -1,4 +1,4 @@
-//! Laws of legal journals, each the clause of a call that does nothing.
+//! Laws of legal journals, of any state and of texts, each the clause of a call that does nothing.
 
 ghost use Rattle.cv_event.specs.Laws.{ProjectIsOfEdits, ViewIsLast, JobTakesThePresent, ImageIsOfTheTaken};
 ghost use Rattle.cv_event.specs.Laws.{EndIsFirst, EndsStay, EndedJobsAreVoid, CancelledJobsAreVoid};
@@ -6,12 +6,15 @@ ghost use Rattle.cv_event.specs.Laws.{SupersededJobsAreVoid, SlotsAreAsLooked, T
 ghost use Rattle.cv_event.specs.Laws.{ComposerIsOfCompose, CacheOfOneCanvas, CachedImagesArePresent};
 ghost use Rattle.cv_event.specs.Laws.{TaskIsOfTheFirst, TaskIsLeastSlot, ComposeIsDue};
 ghost use Rattle.cv_event.specs.TextLaws.{LineTellsEntry, LineTellsRefused, TextTellsJournal};
-ghost use Rattle.cv_event.specs.TextLaws.{TextAndEditsTellJournal};
-ghost use Rattle.cv_event.specs.ViewLaws.{CachedViewsArePans, CachedLayersAreDistinct};
+ghost use Rattle.cv_event.specs.TextLaws.{TextAndEditsTellJournal, LegalActsFit, JobsHaveFewSlots};
+ghost use Rattle.cv_event.specs.HitLaws.{HitsAreOfEdits, FateIsOfEdits};
+ghost use Rattle.cv_event.specs.ViewLaws.{CachedViewsArePans, CachedLayersAreDistinct, HitsAreAlike};
 ghost use Rattle.cv_event.specs.ShownLaws.{PreviewListsReady, PublishedIsLastFinished};
 ghost use Rattle.cv_event.specs.JobLaws.{AcceptedIsCounted, CanvasesStay, SlotsAreOfTheTaken, FreshIsOfEdits};
-ghost use Rattle.cv_event.specs.JobLaws.{DeliveryIsByLooker, FinishIsByComposer, TaskIsDue, LooksAreOfLiveJobs};
-ghost use Rattle.cv_event.specs.JobLaws.{ComposesAreOfLiveJobs};
+ghost use Rattle.cv_event.specs.JobLaws.{DeliveryIsByLooker, FinishIsByComposer, TaskIsDue};
+ghost use Rattle.cv_event.specs.JobLaws.{LooksAreOfLiveJobs, ComposesAreOfLiveJobs, JobsAreStarts};
+ghost use Rattle.cv_event.specs.JobLaws.{StartedJobsAreThere};
+ghost use Rattle.cv_event.specs.JobLaws.{NoMemoryNeverStands};
 
 /// The present project is that of the opening behind all accepted edits.
 pub fn project_is_of_edits()
@@ -64,7 +67,8 @@ pub fn slots_are_as_looked()
     ensures { SlotsAreAsLooked }
 {}
 
-/// A slot of a job without end is touched where an edit behind the start touches one of its dependencies.
+/// A slot of a job without end is touched where an accepted edit behind the start touches one of its
+/// dependencies.
 pub fn touched_by_edits()
     ensures { TouchedByEdits }
 {}
@@ -79,7 +83,8 @@ pub fn cache_of_one_canvas()
     ensures { CacheOfOneCanvas }
 {}
 
-/// What stands in a cache was painted of the present parts of its layer.
+/// What stands in a cache was painted for a ready slot of a job on its canvas, at the job's view, of the
+/// present parts of its layer.
 pub fn cached_images_are_present()
     ensures { CachedImagesArePresent }
 {}
@@ -120,13 +125,25 @@ pub fn text_and_edits_tell_journal()
     ensures { TextAndEditsTellJournal }
 {}
 
-/// A preview lists the job's ready slots.
+/// The numbers of a legal journal's acts are of their types, where the opening has at most 32 layers, as many
+/// canvases as can be numbered, and sizes of their types.
+pub fn legal_acts_fit()
+    ensures { LegalActsFit }
+{}
+
+/// A job of a legal journal has at most as many slots as a preview can tell, where the opening has at most 32
+/// layers, as many canvases as can be numbered, and sizes of their types.
+pub fn jobs_have_few_slots()
+    ensures { JobsHaveFewSlots }
+{}
+
+/// A preview lists the job's ready slots, where the job has at most 32 slots.
 pub fn preview_lists_ready()
     ensures { PreviewListsReady }
 {}
 
-/// A slot waits for the delivery of a caller exactly where this caller looked at it and missed it, and no delivery
-/// of it stands.
+/// A slot waits for the delivery of a caller exactly where this caller looked at it and missed it, and no
+/// delivery of it stands.
 pub fn delivery_is_by_looker()
     ensures { DeliveryIsByLooker }
 {}
@@ -141,6 +158,21 @@ pub fn accepted_is_counted()
     ensures { AcceptedIsCounted }
 {}
 
+/// Starts number their jobs 1, 2, .., and there are as many jobs as starts.
+pub fn jobs_are_starts()
+    ensures { JobsAreStarts }
+{}
+
+/// A job of a number is there exactly where a start has the number.
+pub fn started_jobs_are_there()
+    ensures { StartedJobsAreThere }
+{}
+
+/// Want of memory is never the verdict of an edit that stands.
+pub fn no_memory_never_stands()
+    ensures { NoMemoryNeverStands }
+{}
+
 /// The canvases keep the sizes and capacities that they were opened with.
 pub fn canvases_stay()
     ensures { CanvasesStay }
@@ -151,8 +183,8 @@ pub fn slots_are_of_the_taken()
     ensures { SlotsAreOfTheTaken }
 {}
 
-/// A slot of a job without end is fresh where the job's view is its canvas's last one, and no edit behind the start
-/// touches one of its dependencies.
+/// A slot of a job without end is fresh where the job's view is its canvas's last one, and no accepted edit
+/// behind the start touches one of its dependencies.
 pub fn fresh_is_of_edits()
     ensures { FreshIsOfEdits }
 {}
@@ -178,7 +210,7 @@ pub fn published_is_last_finished()
     ensures { PublishedIsLastFinished }
 {}
 
-/// All images in a cache are at pans of the canvas's present view.
+/// A canvas's present view is a pan of the view of each image in its cache.
 pub fn cached_views_are_pans()
     ensures { CachedViewsArePans }
 {}
@@ -186,4 +218,22 @@ pub fn cached_views_are_pans()
 /// A cache has at most one image of each layer, and no more than its canvas's capacity.
 pub fn cached_layers_are_distinct()
     ensures { CachedLayersAreDistinct }
+{}
+
+/// An image that a look hits is at the job's view, and was painted of the same parts as the job would paint.
+pub fn hits_are_alike()
+    ensures { HitsAreAlike }
+{}
+
+/// A look at a slot of a job without end hits where the job's view is its canvas's last one, no accepted edit
+/// behind the start touches one of the slot's dependencies, and the cache has an image of its layer at the
+/// job's view.
+pub fn hits_are_of_edits()
+    ensures { HitsAreOfEdits }
+{}
+
+/// What is delivered is dropped where an act behind the start ended the job, else stored where the slot is
+/// fresh and the canvas has a capacity, and else kept.
+pub fn fate_is_of_edits()
+    ensures { FateIsOfEdits }
 {}

@@ -1,7 +1,8 @@
 //! The journal of a session: what its entries are, which journals are legal, and a journal's text.
 //!
 //! Contract: a `Journal` is the list of its entries with a number of spare places; `text` is the text that
-//! the definition says. Definitions: `States`, `Legality`, `Histories`, `Lines`, `Laws`, in this order.
+//! the definition says. Definitions: `States`, `Legality`, `Histories`, `Lines`, `Readings`; laws:
+//! `TextLaws`, `Laws`, `JobLaws`, `ShownLaws`, `ViewLaws`, `HitLaws`, in this order.
 //! `Journal::reserve`, `RefusedList`'s `push` and `text` take memory; no handle is needed.
 #![tactic(auto)]
 

@@ -13,9 +13,9 @@ pub enum Reason {
     WrongKind,
     /// The layer's or the feature's id is taken.
     DuplicateId,
-    /// The project would pass a limit.
+    /// The project, or the new layer's names, would pass a limit, or 4,000,000,000 edits were accepted.
     Limit,
-    /// A place, a row or a column that isn't there.
+    /// A place, a row or a column that isn't there, or another number of values than of columns.
     BadPlace,
     /// The number is no canvas.
     UnknownCanvas,

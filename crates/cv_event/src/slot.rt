@@ -5,7 +5,7 @@
 pub enum Standing {
     /// The cache wasn't asked yet.
     Open,
-    /// The cache hadn't its image, so the caller of this number paints it.
+    /// The cache couldn't serve it, so the caller of this number paints it.
     Missed(u32),
     /// Its image is there.
     Ready,
@@ -20,7 +20,7 @@ pub struct Slot {
     pub layer: u32,
     /// How far it is.
     pub standing: Standing,
-    /// Whether, while its job had no end, an edit touched a layer on which its image depends.
+    /// Whether, while its job had no end, an accepted edit touched a layer on which its image depends.
     pub touched: bool,
 }
 

@@ -11,3 +11,4 @@ pub mod SpanLemmas
 pub mod CentreLemmas
 pub mod RunLemmas
 pub mod UniteLemmas
+pub mod PlaceLemmas

@@ -1,9 +1,10 @@
-//! Views of the map, and the exact tests of geometries against pixel centres.
+//! Views of the map, the exact tests of geometries against pixel centres, and runs of pixels.
 //!
 //! Contract: each call answers exactly what the definition of its name says, under its conditions; `Steps`
-//! counts what is visited. Definitions: `Views`, `Falls` and `Spans` here; `Views`, `Polygons`, `Pens` and
-//! `Markers` of `cv_model`. Laws: `ViewLaws`, `Tilings`, and that of `Spans`. No call takes memory, no
-//! handle is needed.
+//! counts what is visited; runs that are united lie in reading order, no pixel on two. Definitions: `Views`,
+//! `Falls`, `Multiples`, `Spans` and `Runs` here; `Views`, `Polygons`, `Pens` and `Markers` of `cv_model`.
+//! Laws: `ViewLaws`, `Tilings`, and those of `Spans` and `Runs`. `Runs` takes memory, no other call does;
+//! no handle is needed.
 #![tactic(auto)]
 
 mod centres;
@@ -11,8 +12,10 @@ mod falls;
 mod lengths;
 mod markers;
 mod measures;
+mod multiples;
 mod parity;
 mod pens;
+mod places;
 mod range;
 mod runs;
 mod spans;
@@ -25,8 +28,10 @@ pub use centres::centre;
 pub use falls::search;
 pub use markers::marked;
 pub use measures::{distance, distance_to, product};
+pub use multiples::Multiples;
 pub use parity::{inside, is_low, passes_right};
 pub use pens::{begins_before, ends_behind, near, overlaps_upwards};
+pub use places::{column_from, doubled_sides, row_under};
 pub use runs::{Area, Run, Runs, runs_are_apart, runs_are_few};
 pub use spans::runs_are_one;
 pub use steps::Steps;

@@ -23,7 +23,13 @@ pub fn with_feature(pixel: Rgba, feature: &Feature, symbol: &Symbol, view: &View
 
 /// A pixel with the fill, the pen and the marker of a geometry on it, in this order.
 #[tactic(auto, using(crate::proofs::LayLemmas::laid_more), unfolding(cv_model::specs::Pictures::strokes_of))]
-pub fn with_strokes(pixel: Rgba, geometry: &Geometry, symbol: &Symbol, view: &View, p: Point2) -> Rgba
+pub fn with_strokes(
+    pixel: Rgba,
+    geometry: &Geometry,
+    symbol: &Symbol,
+    view: &View,
+    p: Point2,
+) -> Rgba
     ensures { result ≡ laid_on pixel (strokes_of symbol.now view.now p geometry.now) }
 {
     let filled = with_fill(pixel, geometry, symbol.fill, p);

@@ -109,7 +109,7 @@ fn put_polygons<L: Ledger>(
     requires area { IsArea view.now.w view.now.h area }
     ensures added { OnOk result (Adds
         (λ i j. list_any (list_any (hits_ring (half_side view.now width) (centre_of view.now i j)))
-            polygons.now)
+        polygons.now)
         area into.old into.new) }
     ensures cost { steps.new ≤ steps.old + length (edges_of polygons.now) * rows_of area }
 {
@@ -222,7 +222,7 @@ fn put_path<L: Ledger>(
     requires area { IsArea view.now.w view.now.h area }
     ensures added { OnOk result (Adds
         (λ i j. list_any (is_near (half_side view.now width) (centre_of view.now i j))
-            (edges_from first points.now))
+        (edges_from first points.now))
         area into.old into.new) }
     ensures cost { steps.new ≤ steps.old + length points.now * rows_of area }
 {

@@ -1,10 +1,19 @@
 //! Worked runs, and random segments and points against the test of each centre.
 
+ghost use Rattle.std.specs.Prelude.{◌≡◌, ◌<◌};
+ghost use Rattle.cv_model.specs.Pens.{IsRadius};
+ghost use Rattle.cv_geom.specs.Runs.{IsArea};
+ghost use Rattle.cv_pen.specs.Strokes.{IsPenWidth};
+
 use crate::strokes::half_side;
-use crate::{marker, stroke};
-use cv_geom::{centre, marked, near};
-use cv_model::{Point, Shape, Span, View};
+use crate::{line_runs, marker, marker_runs, ring_runs, stroke};
+use cv_geom::{Area, Runs, Steps, centre, marked, near};
+use cv_model::{Line, NoMemory, Point, Point2, Polygon, Ring, Shape, Span, View};
+use std::alloc::Global;
+use std::marker::Brand;
 use std::process::Abort;
+use std::sync::ledger::{Blank, Ledger};
+use std::test::Fail;
 
 /// 10^15.
 const FAR: i64 = 1_000_000_000_000_000;
@@ -104,6 +113,123 @@ fn assert_marker(rt: &impl Abort, shape: Shape, middle: Point, size: u8, view: &
     }
 }
 
+/// Of what the runs of an area are asked.
+#[derive(Clone, Copy)]
+enum Drawn {
+    Ring,
+    Line,
+    Circles,
+}
+
+/// All pixels of a view.
+fn whole(view: &View) -> Area
+    ensures { IsArea view.now.w view.now.h result }
+{
+    Area {
+        columns: Span {
+            from: 0,
+            end: view.w,
+        },
+        rows: Span {
+            from: 0,
+            end: view.h,
+        },
+    }
+}
+
+fn polygon(alloc: Global, points: &[Point]) -> Result<Polygon, NoMemory> {
+    let mut ring = Ring::new(alloc);
+    for point in points {
+        ring.put(*point)?;
+    }
+    let mut polygon = Polygon::new(alloc);
+    polygon.put(ring)?;
+    Ok(polygon)
+}
+
+fn line(alloc: Global, points: &[Point]) -> Result<Line, NoMemory> {
+    let mut line = Line::new(alloc);
+    for point in points {
+        line.put(*point)?;
+    }
+    Ok(line)
+}
+
+/// The runs of a view that are drawn through some points, with a count that nobody reads.
+fn runs_through<L: Ledger>(
+    alloc: Global,
+    what: Drawn,
+    points: &[Point],
+    size: u32,
+    view: &View,
+    blank: Blank,
+) -> Result<Runs, NoMemory>
+    requires size { IsPenWidth size }
+    requires name { blank.name ≡ L.name }
+    requires parts { blank.parts ≡ L.parts }
+    requires some { 0 < L.parts }
+{
+    let mut runs = Runs::new(alloc);
+    let mut steps = Steps::<L>::of(blank);
+    let area = whole(view);
+    match what {
+        Drawn::Ring => {
+            let polygons = [polygon(alloc, points)?];
+            ring_runs(&polygons, size, view, area, &mut runs, &mut steps)?;
+        }
+        Drawn::Line => {
+            let lines = [line(alloc, points)?];
+            line_runs(&lines, size, view, area, &mut runs, &mut steps)?;
+        }
+        Drawn::Circles => {
+            let circle = Shape::Circle;
+            marker_runs(points, circle, size, view, area, &mut runs, &mut steps)?;
+        }
+    }
+    Ok(runs)
+}
+
+/// Whether a position is hit by what is drawn through three points.
+fn is_hit(what: Drawn, a: Point, b: Point, c: Point, r: i64, p: Point2) -> bool
+    requires { IsRadius r }
+{
+    match what {
+        Drawn::Ring => near(a, b, p, r) || near(b, c, p, r) || near(c, a, p, r),
+        Drawn::Line => near(a, b, p, r) || near(b, c, p, r),
+        Drawn::Circles => [a, b, c].iter().any(|at| marked(Shape::Circle, *at, p, r)),
+    }
+}
+
+/// Whether a pixel lies on one of some runs.
+fn is_on_any(runs: &Runs, i: u32, row: u32) -> bool {
+    runs.as_slice()
+        .iter()
+        .any(|run| run.row == row && run.from <= i && i < run.end)
+}
+
+/// Asserts that the runs of a view have exactly its pixels whose centres are hit.
+fn assert_drawn(
+    rt: &impl Abort,
+    alloc: Global,
+    what: Drawn,
+    a: Point,
+    b: Point,
+    c: Point,
+    size: u8,
+    view: &View,
+) -> Result<(), NoMemory> {
+    let size = u32::from(size % 64) + 1;
+    let r = half_side(view, size);
+    let found = runs_through::<Brand>(alloc, what, &[a, b, c], size, view, Blank::new(1))?;
+    for row in 0..view.h {
+        for i in 0..view.w {
+            let want = is_hit(what, a, b, c, r, centre(view, i, row));
+            assert_eq!(rt; is_on_any(&found, i, row), want, "at {i} {row}");
+        }
+    }
+    Ok(())
+}
+
 #[test]
 fn a_pen_of_one_pixel(rt: HostRuntime) {
     let table = [
@@ -111,6 +237,7 @@ fn a_pen_of_one_pixel(rt: HostRuntime) {
         (at(1, 4), at(5, 4), 0, None),
         (at(1, 4), at(5, 4), 2, Some((0, 3))),
         (at(3, 3), at(3, 3), 2, Some((1, 2))),
+        (at(2, 2), at(2, 2), 2, Some((0, 2))),
         (at(2, 2), at(2, 2), 3, Some((0, 2))),
     ];
     for (a, b, row, want) in table {
@@ -135,4 +262,21 @@ fn pens_and_markers_at_random(rt: HostRuntime) {
             }
         }
     }
+}
+
+#[test]
+fn runs_through_points_at_random(rt: HostRuntime) -> Result<(), Fail> {
+    let alloc = rt.alloc();
+    let mut seed = 18;
+    for (kind, view) in [(0, FOUR_BY_FOUR), (1, FINEST), (2, COARSEST)] {
+        for size in 0..25u8 {
+            let (a, b) = (next(&mut seed), next(&mut seed));
+            let (c, d) = (next(&mut seed), next(&mut seed));
+            let (from, to, last) = (point(kind, a, b), point(kind, c, d), point(kind, b, c));
+            for what in [Drawn::Ring, Drawn::Line, Drawn::Circles] {
+                assert_drawn(&rt, alloc, what, from, to, last, size, &view)?;
+            }
+        }
+    }
+    Ok(())
 }

@@ -48,7 +48,8 @@ with_default default kind name node = option_map_or kind (field name node) (Ok d
 unfoldable pub tested : Bool → List ℕ → TreeNode → Result (Unit {0}) Refusal
 tested test name node = if test then Ok tt else Err (Limit (field_path node.path name))
 
--- the first key in byte order that isn't among these names
+-- the first key that isn't among these names, in the order of the members, which is byte order in a tree
+-- that was read
 abbrev pub first_other : List (List ℕ) → Members → Option (List ℕ)
 first_other names no_members = None
 first_other names (member key d rest) = if list_any (λ name. bytes_eq name key) names

@@ -21,7 +21,7 @@ abbrev pub spelled : {X : Type 0} → TreeNode → Option X → Result X Refusal
 spelled node None = Err (WrongKind node.path)
 spelled node (Some x) = Ok x
 
--- a value is one that has a number at all
+-- a value is one that has a number in range
 abbrev pub in_range : {X : Type 0} → TreeNode → Option X → Result X Refusal
 in_range node None = Err (Limit node.path)
 in_range node (Some x) = Ok x
@@ -70,7 +70,7 @@ decimal_in least most node = do
   z ← in_range node (number_in value)
   within node (int_le least z && int_le z most) z
 
--- a coordinate, and any other number of the map
+-- a coordinate, the value of a cell, or a number of a text
 abbrev pub coordinate_of : TreeNode → Result ℤ Refusal
 coordinate_of = decimal_in (negsuc 999999999999999) (pos 1000000000000000)
 

@@ -10,6 +10,7 @@ pub record IsReadAs (bytes : List ℕ) (file : FileParts) : Type 0 where
   pub tree : IsTree bytes (file_tree file)
   pub project : tree_project (file_tree file) ≡ Ok file
 
--- the fields read from the tree that stands for a file in form are that file
+-- the fields read from the tree that stands for a file in form are that file, where its parts keep what the
+-- types of such a file in memory keep
 abbrev pub TreesAreRead : Type 0
 TreesAreRead = (file : FileParts) → IsInForm file → KeptFile file → tree_project (file_tree file) ≡ Ok file

@@ -9,7 +9,8 @@ use cv_model::Text;
 /// Why a file is no project. The texts are paths, such as `layers[2].style.classes[0].symbol.pen.width`.
 #[derive(Debug, Drop)]
 pub enum ProjectError {
-    /// The bytes are no JSON.
+    /// The bytes are no JSON that `serde_json` reads: by RFC 8259, at most 127 values nested, numbers within
+    /// its range, no lone surrogates.
     NotJson,
     /// A field that must be there isn't.
     Missing(Text),

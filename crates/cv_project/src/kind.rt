@@ -210,7 +210,7 @@ pub struct Decimal {
     pub most: i64,
 }
 
-/// A coordinate, and any other number of the map.
+/// A coordinate, the value of a cell, or a number of a text.
 pub const COORDINATE: Decimal = Decimal {
     least: -1_000_000_000_000_000,
     most: 1_000_000_000_000_000,

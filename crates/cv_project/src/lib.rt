@@ -4,7 +4,8 @@
 //! is answered; what is written is read as the same file. Definitions: `Fields`, `Lists` and `Kinds`, by
 //! which the tables of `Symbols` to `Projects` are written, one line a field; `Trees`, what is written,
 //! likewise.
-//! Memory is taken for the tree and for what is read or written; no handle is needed.
+//! Memory is taken for the tree, for what is read or written, and for the path of a refusal; no handle is
+//! needed.
 #![tactic(auto)]
 
 ghost use Rattle.std.specs.Prelude.{◌≡◌, ◌≢◌, ◌↔◌, Ok, Err, IfOk, List, ℕ};
@@ -71,10 +72,11 @@ pub fn read(alloc: Global, bytes: &[u8]) -> Result<ProjectFile, ProjectError>
 }
 
 /// The bytes of a project file in form: compact JSON of version 2, with each field, also where it has its
-/// default. A field without a default that is absent is left out, and so is a bound of scales.
+/// default. A field without a default that is absent is left out; so are an absent bound of scales, and
+/// scales without a bound.
 pub fn write(alloc: Global, file: &ProjectFile) -> Result<Vec<u8>, NoMemory>
     requires { IsInForm file.now }
-    // The tree that stands for the file, without white space.
+    // The tree that stands for the file, without white space between its tokens.
     ensures bytes { IfOk result (λ b. b.items ≡ compact_text (file_tree file.now)) }
     // What is written is read as the same file.
     ensures read { IfOk result (λ b. IsReadAs b.items file.now) }

@@ -318,7 +318,7 @@ fn text_source(
 ) -> Result<Value, NoMemory>
     ensures { IfOk result
         (λ value. view value
-            ≡ object_of (text_source_fields file.now (delimiter_word delimiter) geometry.now)) }
+        ≡ object_of (text_source_fields file.now (delimiter_word delimiter) geometry.now)) }
 {
     let mut fields = Object::new(alloc);
     fields.always("delimiter", &Spelt(delimiter))?;

@@ -2,3 +2,5 @@
 pub mod ReachLemmas
 pub mod RunLemmas
 pub mod MarkLemmas
+pub mod CrossingLemmas
+pub mod PlaneLemmas

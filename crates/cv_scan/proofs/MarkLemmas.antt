@@ -22,13 +22,13 @@ use Rattle.cv_scan.specs.declared.marks.Mark.{Mark}
 use Rattle.cv_scan.specs.Marks.{is_right, marks_right, MarkIn, AddsMarks, IsBefore, Descends, run_between, runs_from}
 
 -- a mark counts once
-abbrev once : ℕ → ℕ → Mark → ℕ
+abbrev pub once : ℕ → ℕ → Mark → ℕ
 once i j mark = cond (is_right i j mark) 1 0
 
-right-cons : (i j : ℕ) (a : Mark) (marks : List Mark) → marks_right i j (a ∷ marks) ≡ once i j a + marks_right i j marks
+pub right-cons : (i j : ℕ) (a : Mark) (marks : List Mark) → marks_right i j (a ∷ marks) ≡ once i j a + marks_right i j marks
 right-cons i j a marks = sum_by-cons (once i j) a marks
 
-right-append : (i j : ℕ) (xs ys : List Mark) → marks_right i j (xs ++ ys) ≡ marks_right i j xs + marks_right i j ys
+pub right-append : (i j : ℕ) (xs ys : List Mark) → marks_right i j (xs ++ ys) ≡ marks_right i j xs + marks_right i j ys
 right-append i j xs ys = sum_by-append (once i j) xs ys
 
 -- ---- marks that are put one after the other

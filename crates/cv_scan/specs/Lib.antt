@@ -1,5 +1,6 @@
--- The definitions of reaches and marks, of the runs made of them, and the law of both forms.
+-- The definitions of reaches, marks and planes, of the runs made of them, and the law of both forms.
 pub mod Reaches
 pub mod Runs
 pub mod Marks
 pub mod Fills
+pub mod Planes

@@ -1,7 +1,11 @@
 -- Marks: how far crossings of edges with the heights of rows reach, and the runs that lie between them.
 --
 -- Source: this project's own form of the parity rule for polygons.
-use Rattle.std.specs.Prelude.{ℕ, ◌+◌, ◌≡◌, ◌<◌, ◌≤◌, ◌==◌, nat_lt, Bool, ◌&&◌, if◌then◌else◌, ◌⊎◌, List, [], ◌∷◌, ◌++◌, count_by, All, Option, Some, None}
+use Rattle.std.specs.Prelude.{ℕ, ◌+◌, ◌≡◌, ◌<◌, ◌≤◌, ◌==◌, nat_lt, Bool, true, false, not, int_lt, ◌&&◌, if◌then◌else◌, ◌⊎◌, List, [], ◌∷◌, ◌++◌, count_by, All, Option, Some, None}
+use Rattle.cv_model.specs.declared.span.Span.{Span}
+use Rattle.cv_model.specs.Positions.{Position, doubled}
+use Rattle.cv_model.specs.Polygons.{is_low}
+use Rattle.cv_model.specs.Views.{PixelGrid, centre_of}
 use Rattle.cv_geom.specs.declared.runs.Run.{Run}
 use Rattle.cv_geom.specs.declared.runs.Area.{Area}
 use Rattle.cv_geom.specs.Runs.{IsIn}
@@ -50,3 +54,26 @@ runs_from from (Some a) (b ∷ rest) =
     if a.row == b.row
     then run_between a.row b.column a.column ++ runs_from from None rest
     else run_between a.row from a.column ++ runs_from from (Some b) rest
+
+-- columns between those of two ends, among some: the columns before them lie left of both ends, those behind
+-- them of neither
+pub record IsBetween (v : PixelGrid) (a b : Position) (columns between : Span) : Type 0 where
+  pub west : columns.from ≤ between.from
+  pub order : between.from ≤ between.end
+  pub east : between.end ≤ columns.end
+  pub left_a : (i : ℕ) → columns.from ≤ i → i < between.from → int_lt (centre_of v i 0).x (doubled a).x ≡ true
+  pub left_b : (i : ℕ) → columns.from ≤ i → i < between.from → int_lt (centre_of v i 0).x (doubled b).x ≡ true
+  pub right_a : (i : ℕ) → between.end ≤ i → i < columns.end → int_lt (centre_of v i 0).x (doubled a).x ≡ false
+  pub right_b : (i : ℕ) → between.end ≤ i → i < columns.end → int_lt (centre_of v i 0).x (doubled b).x ≡ false
+
+-- rows of an area at whose height one end of an edge is low and the other isn't; at the height of no other one
+pub record CrossesRows (v : PixelGrid) (a b : Position) (area : Area) (rows : Span) : Type 0 where
+  pub north : area.rows.from ≤ rows.from
+  pub order : rows.from ≤ rows.end
+  pub south : rows.end ≤ area.rows.end
+  pub apart : (j : ℕ) → rows.from ≤ j → j < rows.end
+      → is_low (centre_of v 0 j) (doubled a) ≡ not (is_low (centre_of v 0 j) (doubled b))
+  pub before : (j : ℕ) → area.rows.from ≤ j → j < rows.from
+      → is_low (centre_of v 0 j) (doubled a) ≡ is_low (centre_of v 0 j) (doubled b)
+  pub behind : (j : ℕ) → rows.end ≤ j → j < area.rows.end
+      → is_low (centre_of v 0 j) (doubled a) ≡ is_low (centre_of v 0 j) (doubled b)

@@ -72,7 +72,7 @@ fn put_polygon<L: Ledger>(
 {
     scratch.marks.clear();
     put_marks(&mut scratch.marks, polygon, view, area, steps)?;
-    put_runs(&mut scratch.marks, area, into)?;
+    put_runs(&mut scratch.marks, &mut scratch.bits, area, into)?;
     Ok(())
 }
 

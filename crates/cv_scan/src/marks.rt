@@ -1,18 +1,17 @@
 //! Marks of crossings, each edge read once.
 
 ghost use Rattle.std.specs.Prelude.{◌≡◌, ◌+◌, ◌*◌, ◌≤◌, ◌<◌, ℕ, ◌++◌, ◌==◌, ◌%◌, OnOk, length, All};
-ghost use Rattle.std.specs.Prelude.{if◌then◌else◌, None, int_lt};
+ghost use Rattle.std.specs.Prelude.{if◌then◌else◌, None, pos, ◌*ℤ◌, ◌≤ℤ◌, int_le};
 ghost use Rattle.std.specs.List.{flat_map};
-ghost use Rattle.cv_model.specs.Positions.{doubled};
-ghost use Rattle.cv_model.specs.Polygons.{edges, crossings, is_crossed, is_low};
+ghost use Rattle.cv_model.specs.Polygons.{edges, crossings, is_crossed};
 ghost use Rattle.cv_model.specs.Views.{centre_of};
-ghost use Rattle.cv_geom.specs.Falls.{FallsAt};
 ghost use Rattle.cv_geom.specs.Runs.{Adds, IsArea, rows_of};
-ghost use Rattle.cv_scan.specs.Marks.{AddsMarks, MarkIn, marks_right, run_between, runs_from};
+ghost use Rattle.cv_scan.specs.Marks.{AddsMarks, CrossesRows, IsBetween, MarkIn, marks_right, run_between, runs_from};
 
-use crate::crossings::column_of_crossing;
-use cv_geom::{Area, Run, Runs, Steps, centre, is_low, search};
-use cv_model::{NoMemory, Point, Point2, Polygon, Span, View};
+use crate::crossings::{column_of_crossing, columns_between, row_of};
+use crate::planes::{put_runs_by_bits, size};
+use cv_geom::{Area, Multiples, Run, Runs, Steps, doubled_sides};
+use cv_model::{NoMemory, Point, Polygon, Span, View};
 use std::sync::ledger::Ledger;
 
 /// How far a crossing with the height of a row reaches: the columns before `column` lie left of it.
@@ -36,8 +35,9 @@ pub fn put_marks<L: Ledger>(
         marks.old.items marks.new.items) }
     ensures cost { steps.new ≤ steps.old + length (flat_map edges polygon.now) * rows_of area }
 {
+    let sides = doubled_sides(view);
     for ring in polygon.as_slice() {
-        put_ring(marks, ring.as_slice(), view, area, steps)?;
+        put_ring(marks, ring.as_slice(), view, &sides, area, steps)?;
     }
     Ok(())
 }
@@ -47,10 +47,12 @@ fn put_ring<L: Ledger>(
     marks: &mut Vec<Mark>,
     points: &[Point],
     view: &View,
+    sides: &Multiples,
     area: Area,
     steps: &mut Steps<L>,
 ) -> Result<(), NoMemory>
-    requires { IsArea view.now.w view.now.h area }
+    requires sides { pos sides.now ≡ pos 2 *ℤ view.now.u }
+    requires area { IsArea view.now.w view.now.h area }
     ensures marked { OnOk result (AddsMarks
         (λ i j. crossings (centre_of view.now i j) (edges points.now)) area
         marks.old.items marks.new.items) }
@@ -60,98 +62,135 @@ fn put_ring<L: Ledger>(
         return Ok(());
     };
     let mut before = *last;
-    let mut row_before = row_of(before, view, area.rows);
-    let mut column_before = column_of(before, view, area.columns);
+    let mut row_before = row_of(before, view, sides, area.rows);
     for point in points {
-        let row = row_of(*point, view, area.rows);
+        let row = row_of(*point, view, sides, area.rows);
         let rows = Span {
             from: row.min(row_before),
             end: row.max(row_before),
         };
-        let column = column_of(*point, view, area.columns);
-        let columns = Span {
-            from: column.min(column_before),
-            end: column.max(column_before),
-        };
-        put_edge(marks, before, *point, view, area, rows, columns, steps)?;
+        put_edge(marks, before, *point, view, sides, area, rows, steps)?;
         before = *point;
         row_before = row;
-        column_before = column;
     }
     Ok(())
 }
 
-/// The first of some rows whose centres lie below a point; the end of the rows if none does.
-fn row_of(point: Point, view: &View, rows: Span) -> u32
-    requires order { rows.from ≤ rows.end }
-    requires within { rows.end ≤ view.now.h }
-    ensures { FallsAt (λ j. is_low (centre_of view.now 0 j) (doubled point)) rows.from rows.end result }
-{
-    let _width = view.w;
-    search(rows.from, rows.end, |j| is_low(point, centre(view, 0, j)))
-}
-
-/// The first of some columns whose centres don't lie left of a point; the end of the columns if all do.
-fn column_of(point: Point, view: &View, columns: Span) -> u32
-    requires order { columns.from ≤ columns.end }
-    requires within { columns.end ≤ view.now.w }
-    ensures from { columns.from ≤ result }
-    ensures end { result ≤ columns.end }
-{
-    let _width = view.w;
-    search(
-        columns.from,
-        columns.end,
-        |i| is_left(centre(view, i, 0), point),
-    )
-}
-
-/// Whether a position lies left of a point.
-fn is_left(p: Point2, a: Point) -> bool
-    ensures { result ≡ int_lt p.x (doubled a).x }
-{
-    p.x < 2 * a.x
-}
-
 /// Puts the marks of an edge that crosses the heights of some rows and of no others of an area behind the
-/// others. Its crossings are looked for in `columns` first.
+/// others.
 fn put_edge<L: Ledger>(
     marks: &mut Vec<Mark>,
     a: Point,
     b: Point,
     view: &View,
+    sides: &Multiples,
     area: Area,
     rows: Span,
-    columns: Span,
     steps: &mut Steps<L>,
 ) -> Result<(), NoMemory>
+    requires sides { pos sides.now ≡ pos 2 *ℤ view.now.u }
     requires area { IsArea view.now.w view.now.h area }
-    requires west { area.columns.from ≤ columns.from }
-    requires across { columns.from ≤ columns.end }
-    requires east { columns.end ≤ area.columns.end }
-    requires north { area.rows.from ≤ rows.from }
-    requires order { rows.from ≤ rows.end }
-    requires south { rows.end ≤ area.rows.end }
-    requires before { (j : ℕ) → area.rows.from ≤ j → j < rows.from
-        → is_low (centre_of view.now 0 j) (doubled a) ≡ is_low (centre_of view.now 0 j) (doubled b) }
-    requires behind { (j : ℕ) → rows.end ≤ j → j < area.rows.end
-        → is_low (centre_of view.now 0 j) (doubled a) ≡ is_low (centre_of view.now 0 j) (doubled b) }
+    requires crossed { CrossesRows view.now a b area rows }
     ensures marked { OnOk result (AddsMarks
         (λ i j. if is_crossed (centre_of view.now i j) (a, b) then 1 else 0) area
+        marks.old.items marks.new.items) }
+    ensures cost { steps.new ≤ steps.old + rows_of area }
+{
+    // Few edges get further.
+    if rows.from == rows.end {
+        return Ok(());
+    }
+    if is_upwards(a, b) {
+        put_up(marks, a, b, view, sides, area, rows, steps)
+    } else {
+        put_up(marks, b, a, view, sides, area, rows, steps)
+    }
+}
+
+/// Whether a point stands at a height of at most that of another.
+fn is_upwards(a: Point, b: Point) -> bool
+    ensures { result ≡ int_le a.y b.y }
+{
+    a.y <= b.y
+}
+
+/// Puts the marks of an edge from its lower end up, as `put_edge`.
+fn put_up<L: Ledger>(
+    marks: &mut Vec<Mark>,
+    low: Point,
+    high: Point,
+    view: &View,
+    sides: &Multiples,
+    area: Area,
+    rows: Span,
+    steps: &mut Steps<L>,
+) -> Result<(), NoMemory>
+    requires rises { low.y ≤ℤ high.y }
+    requires sides { pos sides.now ≡ pos 2 *ℤ view.now.u }
+    requires area { IsArea view.now.w view.now.h area }
+    requires crossed { CrossesRows view.now low high area rows }
+    ensures marked { OnOk result (AddsMarks
+        (λ i j. if is_crossed (centre_of view.now i j) (low, high) then 1 else 0) area
+        marks.old.items marks.new.items) }
+    ensures cost { steps.new ≤ steps.old + rows_of area }
+{
+    let between = columns_between(low, high, view, sides, area.columns);
+    put_rows(marks, low, high, view, area, rows, between, steps)
+}
+
+/// Puts the marks of an edge from its lower end up, whose crossings lie between some columns, as `put_edge`.
+fn put_rows<L: Ledger>(
+    marks: &mut Vec<Mark>,
+    low: Point,
+    high: Point,
+    view: &View,
+    area: Area,
+    rows: Span,
+    between: Span,
+    steps: &mut Steps<L>,
+) -> Result<(), NoMemory>
+    requires rises { low.y ≤ℤ high.y }
+    requires area { IsArea view.now.w view.now.h area }
+    requires crossed { CrossesRows view.now low high area rows }
+    requires between { IsBetween view.now low high area.columns between }
+    ensures marked { OnOk result (AddsMarks
+        (λ i j. if is_crossed (centre_of view.now i j) (low, high) then 1 else 0) area
         marks.old.items marks.new.items) }
     ensures cost { steps.new ≤ steps.old + rows_of area }
 {
     let _unit = view.u;
     for row in rows.from..rows.end {
         steps.tick();
-        let column = column_of_crossing(a, b, view, row, area.columns, columns);
+        let column = column_of_crossing(low, high, view, row, between);
         marks.push(Mark { row, column })?;
     }
     Ok(())
 }
 
 /// Puts the runs that lie left of an odd number of marks behind others.
-pub fn put_runs(marks: &mut Vec<Mark>, area: Area, into: &mut Runs) -> Result<(), NoMemory>
+///
+/// Many marks are brought into order by a bit for each pixel, few are sorted.
+pub fn put_runs(
+    marks: &mut Vec<Mark>,
+    bits: &mut Vec<u64>,
+    area: Area,
+    into: &mut Runs,
+) -> Result<(), NoMemory>
+    requires columns { area.columns.from ≤ area.columns.end }
+    requires rows { area.rows.from ≤ area.rows.end }
+    requires marks { All (MarkIn area) marks.old.items }
+    ensures { OnOk result
+        (Adds (λ i j. marks_right i j marks.old.items % 2 == 1) area into.old into.new) }
+{
+    if size(area) / 16 < marks.len() {
+        put_runs_by_bits(marks, bits, area, into)
+    } else {
+        put_sorted_runs(marks, area, into)
+    }
+}
+
+/// Puts the runs that lie left of an odd number of marks behind others, by sorting them.
+fn put_sorted_runs(marks: &mut Vec<Mark>, area: Area, into: &mut Runs) -> Result<(), NoMemory>
     requires { All (MarkIn area) marks.old.items }
     ensures { OnOk result
         (Adds (λ i j. marks_right i j marks.old.items % 2 == 1) area into.old into.new) }
@@ -163,7 +202,7 @@ pub fn put_runs(marks: &mut Vec<Mark>, area: Area, into: &mut Runs) -> Result<()
 }
 
 /// Puts the runs between descending marks behind others.
-fn put_pairs(marks: &[Mark], from: u32, into: &mut Runs) -> Result<(), NoMemory>
+pub fn put_pairs(marks: &[Mark], from: u32, into: &mut Runs) -> Result<(), NoMemory>
     ensures { OnOk result (into.new ≡ into.old ++ runs_from from None marks.now) }
 {
     let mut last: Option<Mark> = None;

@@ -7,6 +7,7 @@ use std::alloc::Global;
 #[derive(Drop)]
 pub struct Scratch {
     pub(crate) marks: Vec<Mark>,
+    pub(crate) bits: Vec<u64>,
 }
 
 impl Scratch {
@@ -14,6 +15,7 @@ impl Scratch {
     pub fn new(alloc: Global) -> Self {
         Scratch {
             marks: Vec::new(alloc),
+            bits: Vec::new(alloc),
         }
     }
 }

@@ -1,10 +1,15 @@
 //! Worked spans, and random polygons against the test of each centre.
 
-use crate::spans;
-use cv_geom::{centre, inside};
-use cv_model::{NoMemory, Point, Polygon, Ring, Spans, View};
+ghost use Rattle.std.specs.Prelude.{◌≡◌, ◌<◌};
+ghost use Rattle.cv_geom.specs.Runs.{IsArea};
+
+use crate::{Scratch, fill_runs, spans};
+use cv_geom::{Area, Runs, Steps, centre, inside};
+use cv_model::{NoMemory, Point, Polygon, Ring, Span, Spans, View};
 use std::alloc::Global;
+use std::marker::Brand;
 use std::process::Abort;
+use std::sync::ledger::{Blank, Ledger};
 use std::test::Fail;
 
 /// 10^15.
@@ -72,9 +77,13 @@ fn point(kind: u8, a: u64, b: u64) -> Point {
             x: (a % 11) as i64 - 1,
             y: (b % 11) as i64 - 1,
         },
-        _ => Point {
+        2 => Point {
             x: (a % 3) as i64 * FAR - FAR,
             y: (b % 5) as i64 * (FAR / 2) - FAR,
+        },
+        _ => Point {
+            x: (a % 3) as i64 * FAR - FAR,
+            y: (b % 11) as i64 - 1,
         },
     }
 }
@@ -112,6 +121,87 @@ fn assert_spans(
     Ok(())
 }
 
+/// All pixels of a view.
+fn whole(view: &View) -> Area
+    ensures { IsArea view.now.w view.now.h result }
+{
+    Area {
+        columns: Span {
+            from: 0,
+            end: view.w,
+        },
+        rows: Span {
+            from: 0,
+            end: view.h,
+        },
+    }
+}
+
+/// The pixels of a view but those of the first column and row.
+fn part(view: &View) -> Area
+    ensures { IsArea view.now.w view.now.h result }
+{
+    Area {
+        columns: Span {
+            from: 1,
+            end: view.w,
+        },
+        rows: Span {
+            from: 1,
+            end: view.h,
+        },
+    }
+}
+
+/// The runs of an area inside polygons, with a count that nobody reads.
+fn runs_in<L: Ledger>(
+    alloc: Global,
+    polygons: &[Polygon],
+    view: &View,
+    area: Area,
+    blank: Blank,
+) -> Result<Runs, NoMemory>
+    requires area { IsArea view.now.w view.now.h area }
+    requires name { blank.name ≡ L.name }
+    requires parts { blank.parts ≡ L.parts }
+    requires some { 0 < L.parts }
+{
+    let mut scratch = Scratch::new(alloc);
+    let mut runs = Runs::new(alloc);
+    let mut steps = Steps::<L>::of(blank);
+    fill_runs(&mut scratch, polygons, view, area, &mut runs, &mut steps)?;
+    Ok(runs)
+}
+
+/// Asserts that the runs of an area have exactly its pixels whose centres are inside.
+fn assert_runs(
+    rt: &impl Abort,
+    alloc: Global,
+    polygons: &[Polygon],
+    view: &View,
+    area: Area,
+) -> Result<(), NoMemory>
+    requires { IsArea view.now.w view.now.h area }
+{
+    let found = runs_in::<Brand>(alloc, polygons, view, area, Blank::new(1))?;
+    for row in area.rows.from..area.rows.end {
+        for i in area.columns.from..area.columns.end {
+            let on = is_on_any(&found, i, row);
+            let p = centre(view, i, row);
+            let want = polygons.iter().any(|it| inside(it, p));
+            assert_eq!(rt; on, want, "at {i} {row}");
+        }
+    }
+    Ok(())
+}
+
+/// Whether a pixel lies on one of some runs.
+fn is_on_any(runs: &Runs, i: u32, row: u32) -> bool {
+    runs.as_slice()
+        .iter()
+        .any(|run| run.row == row && run.from <= i && i < run.end)
+}
+
 #[test]
 fn spans_of_a_polygon_with_a_hole(rt: HostRuntime) -> Result<(), Fail> {
     let alloc = rt.alloc();
@@ -135,10 +225,25 @@ fn spans_of_a_polygon_with_a_hole(rt: HostRuntime) -> Result<(), Fail> {
 fn spans_of_random_polygons(rt: HostRuntime) -> Result<(), Fail> {
     let alloc = rt.alloc();
     let mut seed = 17;
-    for (kind, view) in [(0, FOUR_BY_FOUR), (1, FINEST), (2, COARSEST)] {
-        for _ in 0..300u16 {
+    for (kind, view) in [(0, FOUR_BY_FOUR), (1, FINEST), (2, COARSEST), (3, FINEST)] {
+        for _ in 0..200u16 {
             let polygon = polygon(alloc, kind, &mut seed)?;
             assert_spans(&rt, alloc, &polygon, &view)?;
+        }
+    }
+    Ok(())
+}
+
+#[test]
+fn runs_of_random_polygons(rt: HostRuntime) -> Result<(), Fail> {
+    let alloc = rt.alloc();
+    let mut seed = 18;
+    for (kind, view) in [(0, FOUR_BY_FOUR), (1, FINEST), (2, COARSEST), (3, FINEST)] {
+        for _ in 0..100u16 {
+            let first = polygon(alloc, kind, &mut seed)?;
+            let polygons = [first, polygon(alloc, kind, &mut seed)?];
+            assert_runs(&rt, alloc, &polygons, &view, whole(&view))?;
+            assert_runs(&rt, alloc, &polygons, &view, part(&view))?;
         }
     }
     Ok(())

@@ -49,7 +49,7 @@ whole_in least most word = do
   n ← tested (is_whole word) (digits_value word)
   tested (nat_le least n && nat_le n most) n
 
--- a canvas, a layer, a place, a row or a column
+-- a canvas, a place, a row, a column, or a layer that is named and needn't be there
 abbrev pub number : List ℕ → Option ℕ
 number = whole_in 0 4294967295
 
@@ -110,7 +110,7 @@ decimal_in least most word = do
 abbrev pub coordinate : List ℕ → Option ℤ
 coordinate = number_of
 
--- the cell of a decimal: one beyond the range counts as the limit, and `nan` is none
+-- the cell of a decimal: one beyond the range counts as the limit, and `nan` has no data
 abbrev pub cell_of : Fixed → Cell
 cell_of (Value z) = cells.Value z
 cell_of High = cells.Value (pos 1000000000000000)

@@ -30,7 +30,7 @@ abbrev pub doubled : List ℕ → List ℕ
 doubled [] = []
 doubled (b ∷ bs) = if b == 34 then 34 ∷ 34 ∷ doubled bs else b ∷ doubled bs
 
--- the bytes spell the word: they are the word itself, or the word between quotes
+-- the bytes spell the word: they are the word itself, or the word between quotes, with each `"` of it twice
 pub data SpellsWord (bytes word : List ℕ) : Type 0 where
   BareWord : bytes ≡ word → is_bare word ≡ true → SpellsWord bytes word
   QuotedWord : bytes ≡ 34 ∷ (doubled word ++ 34 ∷ []) → SpellsWord bytes word

@@ -1,7 +1,8 @@
 //! The reader of scripts.
 //!
-//! Contract: a script is read exactly where each of its lines is in the grammar, as the list of its commands
-//! with their lines; else the first line that isn't is answered. Definitions: `Spelling`, how words are spelt
+//! Contract: a script is read exactly where each of its lines is in the grammar and there are at most
+//! 100,000, as the list of its commands with their lines; else the first line that isn't, or is one too many,
+//! is answered. Definitions: `Spelling`, how words are spelt
 //! in a line, and `Words`, the same as a machine; `Kinds` and `Styles`, what a word says; `Table`, the
 //! commands, one row each; `Scripts`, lines and scripts.
 //! Memory is taken for the words of a line and for the commands; no handle is needed.
@@ -41,8 +42,9 @@ const MOST_LINES: u32 = 100_000;
 /// A script is lines of UTF-8 that end at LF, before which a CR is dropped; the last needn't end. A byte
 /// order mark in front of the first is dropped too. A line that is white, or whose first byte that isn't
 /// white is `#`, has no command. Any other is words between spaces and tabs: the command's name and its
-/// arguments. A word that begins with `"` ends at the next `"` that isn't doubled, and `""` in it is one
-/// `"`; no other word has a `"`. Source: this project's own.
+/// arguments. A word that begins with `"` ends at the next `"` that isn't doubled, behind which a space, a
+/// tab or the end must stand, and `""` in it is one `"`; no other word has a `"`. A script has at most
+/// 100,000 lines. Source: this project's own.
 #[tactic(auto, unfolding(crate::specs::Scripts::script_of), using(crate::proofs::CommandLemmas::read_kept))]
 pub fn read(alloc: Global, bytes: &[u8]) -> Result<Script, ScriptError>
     // The commands of the lines, or the first line that isn't in the grammar, or is behind the 100,000th.

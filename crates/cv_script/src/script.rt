@@ -11,9 +11,10 @@ use std::marker::Model;
 pub enum Command {
     /// Sets the view of an extent.
     View { canvas: u32, extent: Extent },
-    /// Moves the view by whole pixels, eastwards and southwards, each from -4,096 to 4,096.
+    /// Moves the view by whole pixels, eastwards and southwards; in a script that is read, each from -4,096
+    /// to 4,096.
     Pan { canvas: u32, dx: i32, dy: i32 },
-    /// Changes the side of a pixel by a fraction, both of whose numbers are from 1 to 1,000.
+    /// Changes the side of a pixel by a fraction; in a script that is read, both numbers are from 1 to 1,000.
     Zoom { canvas: u32, num: u32, den: u32 },
     /// Starts a job.
     Start { canvas: u32 },
@@ -21,7 +22,7 @@ pub enum Command {
     Cancel { canvas: u32 },
     /// Goes on when the canvas's last job has an end.
     Wait { canvas: u32 },
-    /// Claims a task once, and holds it.
+    /// Claims a task once, if one is due, and holds it, but for a look that hits.
     Take,
     /// Does the task that is held longest.
     Give,

@@ -1,6 +1,7 @@
 // The runs of all rows of a ring, as the crate cv_scan finds them: each edge read once, its rows and the
-// columns of its ends found by search, each crossing looked for between these columns first; the marks are
-// sorted, paired, and the runs joined. Prints the microseconds that it took, and the columns covered.
+// columns of its ends found by one multiplication, each crossing searched between these columns; the marks
+// are brought into order by a bit for each pixel and paired, and the runs are joined. Prints the microseconds
+// that it took, and the columns covered.
 use std::time::Instant;
 
 #[derive(Clone, Copy)]
@@ -58,27 +59,6 @@ fn centre(v: &View, i: u32, j: u32) -> Point {
     Point { x: v.lx2 + (2 * i64::from(i) + 1) * v.u, y: v.ty2 - (2 * i64::from(j) + 1) * v.u }
 }
 
-fn is_low(a: Point, p: Point) -> bool {
-    2 * a.y <= p.y
-}
-
-fn passes_right(a: Point, b: Point, p: Point) -> bool {
-    let left = i128::from(p.x - 2 * a.x) * i128::from(2 * b.y - 2 * a.y);
-    let right = i128::from(2 * b.x - 2 * a.x) * i128::from(p.y - 2 * a.y);
-    left < right
-}
-
-fn is_crossed(a: Point, b: Point, p: Point) -> bool {
-    let low_a = is_low(a, p);
-    if low_a == is_low(b, p) {
-        false
-    } else if low_a {
-        passes_right(a, b, p)
-    } else {
-        passes_right(b, a, p)
-    }
-}
-
 fn search(low: u32, high: u32, test: impl Fn(u32) -> bool) -> u32 {
     let (mut at, mut room) = (low, high - low);
     while 0 < room {
@@ -93,30 +73,63 @@ fn search(low: u32, high: u32, test: impl Fn(u32) -> bool) -> u32 {
     at
 }
 
-fn search_near(span: Span, hint: Span, test: impl Fn(u32) -> bool) -> u32 {
-    if span.from < hint.from && !test(hint.from - 1) {
-        search(span.from, hint.from - 1, test)
-    } else if hint.end < span.end && test(hint.end) {
-        search(hint.end + 1, span.end, test)
-    } else {
-        search(hint.from, hint.end, test)
+/// A number with its reciprocal, by which its multiples are counted.
+struct Multiples {
+    step: u64,
+    reciprocal: u64,
+}
+
+impl Multiples {
+    fn of(step: u64) -> Self {
+        Multiples { step, reciprocal: u64::MAX / step }
+    }
+
+    fn count(&self, n: i64, most: u32) -> u32 {
+        if n < 0 {
+            return 0;
+        }
+        let n = n as u64;
+        let guess = ((u128::from(n) * u128::from(self.reciprocal)) >> 64) as u64;
+        let quotient = if n - guess * self.step < self.step { guess } else { guess + 1 };
+        if quotient < u64::from(most) { quotient as u32 + 1 } else { most }
+    }
+}
+
+fn row_of(a: Point, v: &View, sides: &Multiples) -> u32 {
+    sides.count(v.ty2 - v.u - 2 * a.y, v.h)
+}
+
+fn column_of(a: Point, v: &View, sides: &Multiples) -> u32 {
+    sides.count(2 * a.x - 1 - v.lx2 - v.u, v.w)
+}
+
+fn column_of_crossing(low: Point, high: Point, v: &View, row: u32, hint: Span) -> u32 {
+    let limit = i128::from(2 * high.x - 2 * low.x) * i128::from(centre(v, 0, row).y - 2 * low.y);
+    let height = 2 * high.y - 2 * low.y;
+    search(hint.from, hint.end, |i| i128::from(centre(v, i, row).x - 2 * low.x) * i128::from(height) < limit)
+}
+
+fn put_edge(marks: &mut Vec<Mark>, a: Point, b: Point, v: &View, sides: &Multiples, rows: Span) {
+    if rows.from == rows.end {
+        return;
+    }
+    let (low, high) = if a.y <= b.y { (a, b) } else { (b, a) };
+    let (from, end) = (column_of(low, v, sides), column_of(high, v, sides));
+    let hint = Span { from: from.min(end), end: from.max(end) };
+    for row in rows.from..rows.end {
+        marks.push(Mark { row, column: column_of_crossing(low, high, v, row, hint) });
     }
 }
 
 fn put_ring(marks: &mut Vec<Mark>, points: &[Point], v: &View) {
-    let all = Span { from: 0, end: v.w };
-    let row_of = |p: Point| search(0, v.h, |j| is_low(p, centre(v, 0, j)));
-    let column_of = |p: Point| search(0, v.w, |i| centre(v, i, 0).x < 2 * p.x);
+    let sides = Multiples::of(2 * v.u as u64);
     let mut before = points[points.len() - 1];
-    let (mut row_before, mut column_before) = (row_of(before), column_of(before));
+    let mut row_before = row_of(before, v, &sides);
     for point in points {
-        let (row, column) = (row_of(*point), column_of(*point));
-        let hint = Span { from: column.min(column_before), end: column.max(column_before) };
-        for j in row.min(row_before)..row.max(row_before) {
-            let column = search_near(all, hint, |i| is_crossed(before, *point, centre(v, i, j)));
-            marks.push(Mark { row: j, column });
-        }
-        (before, row_before, column_before) = (*point, row, column);
+        let row = row_of(*point, v, &sides);
+        let rows = Span { from: row.min(row_before), end: row.max(row_before) };
+        put_edge(marks, before, *point, v, &sides, rows);
+        (before, row_before) = (*point, row);
     }
 }
 
@@ -158,16 +171,36 @@ fn unite(runs: &mut Vec<Run>) -> Vec<Run> {
     united
 }
 
+/// The runs that end at each other mark, by a bit for each pixel.
+fn put_runs_by_bits(marks: &mut Vec<Mark>, v: &View, into: &mut Vec<Run>) {
+    let (w, h) = (v.w as usize, v.h as usize);
+    let mut bits = vec![0u64; w * h / 64 + 1];
+    for mark in marks.iter() {
+        if 0 < mark.column {
+            let place = mark.row as usize * w + mark.column as usize - 1;
+            bits[place / 64] ^= 1 << (place % 64);
+        }
+    }
+    for row in 0..v.h {
+        marks.clear();
+        for column in (1..=v.w).rev() {
+            let place = row as usize * w + column as usize - 1;
+            if (bits[place / 64] >> (place % 64)) & 1 == 1 {
+                marks.push(Mark { row, column });
+            }
+        }
+        put_pairs(marks, 0, into);
+    }
+}
+
 fn main() {
     let points = ring(1_000_000);
     let view = View { lx2: 0, ty2: 2_000_000_000, u: 976_563, w: 1024, h: 1024 };
     let start = Instant::now();
     let mut marks = Vec::new();
     put_ring(&mut marks, &points, &view);
-    marks.sort_unstable_by_key(|mark| (mark.row, mark.column));
-    marks.reverse();
     let mut runs = Vec::new();
-    put_pairs(&marks, 0, &mut runs);
+    put_runs_by_bits(&mut marks, &view, &mut runs);
     let united = unite(&mut runs);
     let covered: u64 = united.iter().map(|run| u64::from(run.end - run.from)).sum();
     println!("{} {}", start.elapsed().as_micros(), covered);

@@ -18,8 +18,6 @@ loop-point-init g c =
     ap (λ es. length es * rows_of c.args.area) ring in
     record {
       falls = c.row_of-row_before.ensures;
-      west = c.column_of-column_before.ensures.from;
-      east = c.column_of-column_before.ensures.end;
       marked =
           still-start (λ i j. crossings (centre_of v i j) (edges xs))
           (λ i j. crossings (centre_of v i j) (edges_from c.in-Some.last.now xs)) c.args.area c.args.marks.now.items
@@ -40,8 +38,6 @@ loop-point-preserved g c =
     drop_more xs at item less ∙ ap (λ x. x ∷ drop (at + 1) xs) (sym c.point-item.is) in
     record {
       falls = c.row_of-row.ensures;
-      west = c.column_of-column.ensures.from;
-      east = c.column_of-column.ensures.end;
       marked =
           still-step
           (λ i j. crossings (centre_of v i j) (edges xs))

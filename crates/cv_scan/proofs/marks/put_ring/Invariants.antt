@@ -12,8 +12,6 @@ abbrev pub invariant-loop-point : goal.invariant-loop-point
 invariant-loop-point g l = record {
   falls :
       FallsAt (λ j. is_low (centre_of l.view 0 j) (doubled l.before)) l.area.rows.from l.area.rows.end l.row_before;
-  west : l.area.columns.from ≤ l.column_before;
-  east : l.column_before ≤ l.area.columns.end;
   marked :
       StillMarks (λ i j. crossings (centre_of l.view i j) (edges l.points))
       (λ i j. crossings (centre_of l.view i j) (edges_from l.before (drop l.point-index l.points))) l.area

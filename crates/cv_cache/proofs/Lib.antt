@@ -1,0 +1,2 @@
+-- Lemmas on caches.
+pub mod HeldLemmas

@@ -1,0 +1,2 @@
+-- The definitions of the cache.
+pub mod Caches

@@ -1,0 +1,11 @@
+-- Lemmas about the definitions of stores.
+pub mod Lists
+pub mod MapLemmas
+pub mod Limits
+pub mod Kept
+pub mod Edited
+pub mod LawLemmas
+pub mod Verdicts
+pub mod Changes
+pub mod History
+pub mod Inputs

@@ -1,0 +1,39 @@
+-- What holds of stores and their edits: laws, each the clause of a function of its name.
+use Rattle.std.specs.Prelude.{◌≡◌, ℕ, false, List, [], ◌∷◌, ◌++◌, take, fold}
+use Rattle.cv_model.specs.declared.edit.Edit.{Edit}
+use Rattle.cv_model.specs.Layers.{Project, parts, deps}
+use Rattle.cv_model.specs.Edits.{touches_any, step, version, revision, stamps}
+use Rattle.cv_store.specs.Stores.{StoreParts, project_of, revision_in, input_in, stamps_in}
+use Rattle.cv_store.specs.Answers.{IsEdited}
+
+-- an edit that touches none of the layers on which a layer depends leaves what it is painted from: its
+-- parts and its stamps together
+abbrev pub InputStays : Type 0
+InputStays = (s t : StoreParts) (edit : Edit) (id : ℕ) → IsEdited s edit t
+    → touches_any edit (deps (project_of s) id) ≡ false → input_in t id ≡ input_in s id
+
+-- and its stamps
+abbrev pub StampsStay : Type 0
+StampsStay = (s t : StoreParts) (edit : Edit) (id : ℕ) → IsEdited s edit t
+    → touches_any edit (deps (project_of s) id) ≡ false → stamps_in t id ≡ stamps_in s id
+
+-- the project behind the first n of the accepted edits of a history
+abbrev pub behind : Project → List Edit → ℕ → Project
+behind project edits n = fold step project (take n edits)
+
+-- at two versions of one history at which the stamps of a layer are equal, what it is painted from is equal
+abbrev pub EqualStampsEqualParts : Type 0
+EqualStampsEqualParts = (project : Project) (edits : List Edit) (m n id : ℕ)
+    → stamps project (take m edits) id ≡ stamps project (take n edits) id
+    → parts (behind project edits m) id ≡ parts (behind project edits n) id
+
+-- a store is an opened project behind these edits: its project, its version and the revisions are theirs
+pub record IsBehind (project : Project) (edits : List Edit) (s : StoreParts) : Type 0 where
+  pub project_is : project_of s ≡ fold step project edits
+  pub version_is : s.version ≡ version edits
+  pub revisions_are : (id : ℕ) → revision_in s id ≡ revision project edits id
+
+-- a store behind some edits is, behind one more, behind all of them
+abbrev pub HistoryGoesOn : Type 0
+HistoryGoesOn = (project : Project) (edits : List Edit) (edit : Edit) (s t : StoreParts)
+    → IsBehind project edits s → IsEdited s edit t → IsBehind project (edits ++ edit ∷ []) t

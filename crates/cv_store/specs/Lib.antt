@@ -1,0 +1,6 @@
+-- The definitions of stores, in reading order.
+pub mod Stores
+pub mod Tallies
+pub mod Maps
+pub mod Answers
+pub mod Laws

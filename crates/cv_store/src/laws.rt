@@ -1,0 +1,24 @@
+//! What holds of stores and histories of edits, each the clause of a call that does nothing.
+
+ghost use Rattle.cv_store.specs.Laws.{InputStays, StampsStay, EqualStampsEqualParts, HistoryGoesOn};
+
+/// An edit that touches none of the layers on which a layer depends leaves what the layer is painted from:
+/// its parts and its stamps together.
+pub fn input_stays()
+    ensures { InputStays }
+{}
+
+/// Such an edit leaves the layer's stamps.
+pub fn stamps_stay()
+    ensures { StampsStay }
+{}
+
+/// At two versions of one history at which a layer has equal stamps, it has equal parts.
+pub fn equal_stamps_equal_parts()
+    ensures { EqualStampsEqualParts }
+{}
+
+/// A store's project, version and revisions are those of the history of its accepted edits.
+pub fn history_goes_on()
+    ensures { HistoryGoesOn }
+{}

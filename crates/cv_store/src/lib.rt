@@ -1,0 +1,17 @@
+//! The store: the project at its present version, and all edits of it.
+//!
+//! Contract: a store is a project, a version and a revision for each layer; an edit is refused as the
+//! definitions' verdict says, and what it makes is their step. Definitions: `Stores`, `Tallies`, `Answers`,
+//! `Laws`, in this order.
+#![tactic(auto)]
+
+mod frames;
+mod input;
+pub mod laws;
+mod layers;
+mod row;
+mod store;
+mod tally;
+
+pub use cv_layer::NoMemory;
+pub use store::Store;
