@@ -1,0 +1,3 @@
+-- Lemmas on readings, on what bytes say, and on what is left.
+pub mod ReadingLemmas
+pub mod OpenedLemmas
