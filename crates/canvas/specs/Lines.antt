@@ -1,33 +1,39 @@
 -- What standard error gets at each end of a command.
-use Rattle.std.specs.Prelude.{ℕ, List, [], ◌∷◌, ◌++◌, codes, unwrap_or, slice_get}
-use Rattle.cv_top.specs.declared.ends.End.{End}
-use Rattle.cv_top.specs.declared.ends.End.TheVariants.{Done, NoMemory, Usage, BadData, Missing}
-use Rattle.cv_top.specs.declared.ends.End.TheVariants.{ReadFault, WriteFault}
-use Rattle.cv_top.specs.declared.ends.Which.TheVariants.{Layer, Output, Text}
-use Rattle.cv_top.specs.Ends.{text_of_end, text_of_data}
-
--- the word at a place, counted from 0, or nothing
-abbrev pub word_at : ℕ → List (List ℕ) → List ℕ
-word_at place words = unwrap_or (slice_get words place) []
+use Rattle.std.specs.Prelude.{ℕ, List, [], ◌∷◌, ◌++◌, codes, Option}
+use Rattle.std.specs.Io.KnownBytes.{Appends}
+use Rattle.canvas.specs.declared.lines.Names.{Names}
+use Rattle.cv_open.specs.declared.ends.End.{End}
+use Rattle.cv_open.specs.declared.ends.End.TheVariants.{Done, NoMemory, Usage, BadProject, BadData, Missing}
+use Rattle.cv_open.specs.declared.ends.End.TheVariants.{ReadFault, WriteFault}
+use Rattle.cv_open.specs.declared.ends.Which.TheVariants.{Project, Layer, Output, Text}
+use Rattle.cv_open.specs.Ends.{text_of_end, text_of_data}
 
 -- the first line: the end's text; nothing at Done
 abbrev pub first_line : End → List ℕ
 first_line Done = []
 first_line end = text_of_end end ++ 10 ∷ []
 
--- a second line where it helps: the forms of the commands; the layer's name, and why its bytes were refused;
--- the name of the file that failed or isn't there
-abbrev pub second_line : End → List (List ℕ) → List ℕ
-second_line Usage words = codes "quick <csv> <out> <w> <h> <xmin> <ymin> <xmax> <ymax> <rrggbb>" ++ 10 ∷ []
-second_line (BadData place error) words = word_at 1 words ++ (codes ": " ++ (text_of_data error ++ 10 ∷ []))
-second_line (ReadFault which) words = word_at 1 words ++ 10 ∷ []
-second_line (Missing which) words = word_at 1 words ++ 10 ∷ []
-second_line (WriteFault (Output k)) words = word_at 2 words ++ 10 ∷ []
-second_line (WriteFault Text) words = []
-second_line (WriteFault (Layer place)) words = []
-second_line Done words = []
-second_line NoMemory words = []
+-- the forms of the commands
+abbrev pub forms : List ℕ
+forms = codes "quick <csv> <out> <w> <h> <xmin> <ymin> <xmax> <ymax> <rrggbb>\ncheck <project>"
 
--- what standard error gets at an end of these words
-abbrev pub lines_of : End → List (List ℕ) → List ℕ
-lines_of end words = first_line end ++ second_line end words
+-- a second line where it helps: the forms of the commands; the name last read, with why its bytes were refused;
+-- the name of the file that failed or isn't there; why a project was refused is shown by tests
+abbrev pub IsSecond : End → Names → Option (List ℕ) → Option (List ℕ) → Type 0
+IsSecond Usage names old new = Appends old new (forms ++ 10 ∷ [])
+IsSecond (BadProject error) names old new = Unit {0}
+IsSecond (BadData place error) names old new =
+    Appends old new (names.read ++ (codes ": " ++ (text_of_data error ++ 10 ∷ [])))
+IsSecond (ReadFault which) names old new = Appends old new (names.read ++ 10 ∷ [])
+IsSecond (Missing which) names old new = Appends old new (names.read ++ 10 ∷ [])
+IsSecond (WriteFault (Output k)) names old new = Appends old new (names.written ++ 10 ∷ [])
+IsSecond (WriteFault Text) names old new = Appends old new []
+IsSecond (WriteFault (Layer place)) names old new = Appends old new []
+IsSecond (WriteFault Project) names old new = Appends old new []
+IsSecond Done names old new = Appends old new []
+IsSecond NoMemory names old new = Appends old new []
+
+-- both lines
+abbrev pub AreLines : End → Names → Option (List ℕ) → Option (List ℕ) → Type 0
+AreLines end names old new =
+    (mid : Option (List ℕ)) × Appends old mid (first_line end) × IsSecond end names mid new

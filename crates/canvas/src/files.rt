@@ -1,10 +1,13 @@
-//! The real files, as a shelf and a tray. They tell nothing of content, and count each failure of the system.
+//! The real files, as a shelf and a tray. They tell nothing of content, count each failure of the system, and
+//! keep the name that they were last given.
 
 ghost use Rattle.std.specs.Prelude.{false, ◌≡◌, ◌≢◌, ◌+◌, ◌≤◌, min, [], length, take, OnOk, IfSome};
 ghost use Rattle.cv_outside.specs.Counts.{Rose};
 ghost use Rattle.cv_outside.specs.Reads.{ReadCause};
 
+use cv_model::NoMemory;
 use cv_outside::{ReadEnd, Shelf, Tray, TrayEnd};
+use std::alloc::Global;
 use std::io::{ErrorKind, Read};
 use std::rt::Files;
 use std::{fs, io};
@@ -13,18 +16,25 @@ use std::{fs, io};
 #[derive(Drop)]
 pub struct FileShelf<'a, R> {
     files: &'a R,
+    last: String,
     faults: u64,
     misses: u64,
 }
 
 impl<'a, R: Files> FileShelf<'a, R> {
     /// The files that this runtime reaches.
-    pub fn new(files: &'a R) -> Self {
+    pub fn new(files: &'a R, alloc: Global) -> Self {
         FileShelf {
             files,
+            last: String::new(alloc),
             faults: 0,
             misses: 0,
         }
+    }
+
+    /// The name that was last asked, or nothing.
+    pub fn last(&self) -> &str {
+        self.last.as_str()
     }
 
     /// Counts an answer: a miss for an absent file, a fault for a failure.
@@ -42,6 +52,13 @@ impl<'a, R: Files> FileShelf<'a, R> {
         }
         end
     }
+}
+
+/// Keeps a name in the place of the one before.
+fn keep(last: &mut String, name: &str) -> Result<(), NoMemory> {
+    last.clear();
+    last.push_str(name)?;
+    Ok(())
 }
 
 /// Why a file's bytes did not come.
@@ -104,6 +121,9 @@ impl<'a, R: Files> Shelf for FileShelf<'a, R> {
 
     fn read(&mut self, name: &str, max: u64, into: &mut Vec<u8>) -> ReadEnd {
         into.clear();
+        if keep(&mut self.last, name).is_err() {
+            return ReadEnd::NoMemory;
+        }
         let file = match fs::open(self.files, name) {
             Ok(file) => file,
             Err(error) => return self.refuse(unopened(error.kind())),
@@ -126,13 +146,23 @@ impl<'a, R: Files> Shelf for FileShelf<'a, R> {
 #[derive(Drop)]
 pub struct FileTray<'a, R> {
     files: &'a R,
+    last: String,
     faults: u64,
 }
 
 impl<'a, R: Files> FileTray<'a, R> {
     /// The files that this runtime reaches.
-    pub fn new(files: &'a R) -> Self {
-        FileTray { files, faults: 0 }
+    pub fn new(files: &'a R, alloc: Global) -> Self {
+        FileTray {
+            files,
+            last: String::new(alloc),
+            faults: 0,
+        }
+    }
+
+    /// The name that was last written under, or nothing.
+    pub fn last(&self) -> &str {
+        self.last.as_str()
     }
 }
 
@@ -146,6 +176,9 @@ impl<'a, R: Files> Tray for FileTray<'a, R> {
     ghost faults = { λ t. t.faults };
 
     fn write(&mut self, name: &str, bytes: &[u8]) -> TrayEnd {
+        if keep(&mut self.last, name).is_err() {
+            return TrayEnd::NoMemory;
+        }
         match fs::write(self.files, name, bytes) {
             Ok(()) => TrayEnd::Kept,
             Err(_) => {

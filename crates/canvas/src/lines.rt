@@ -1,28 +1,29 @@
 //! What the program leaves behind an end: its status, and the lines on standard error.
 
-ghost use Rattle.std.specs.Prelude.{◌≡◌, OnOk, codes};
+ghost use Rattle.std.specs.Prelude.{◌≡◌, OnOk};
 ghost use Rattle.std.specs.Io.KnownBytes.{Appends};
 ghost use Rattle.std.specs.Process.{exit_status};
-ghost use Rattle.cv_top.specs.Ends.{status_of};
-ghost use Rattle.canvas.specs.Lines.{word_at, first_line, second_line, lines_of};
+ghost use Rattle.cv_open.specs.Ends.{status_of};
+ghost use Rattle.canvas.specs.Lines.{first_line, IsSecond, AreLines};
 
-use cv_model::Text;
-use cv_top::{End, Which};
+use crate::expected::expected;
+use cv_open::{End, Which};
+use cv_project::ProjectError;
 use std::io;
 use std::io::Write;
 use std::process::ExitCode;
 
 /// The forms of the commands, one a line.
-const FORMS: &str = "quick <csv> <out> <w> <h> <xmin> <ymin> <xmax> <ymax> <rrggbb>";
+const FORMS: &str =
+    "quick <csv> <out> <w> <h> <xmin> <ymin> <xmax> <ymax> <rrggbb>\ncheck <project>";
 
-/// The word at a place, counted from 0, or nothing.
-fn word_at(words: &[Text], place: usize) -> &str
-    ensures { result.now ≡ word_at place words.now }
-{
-    match words.get(place) {
-        Some(word) => word.as_str(),
-        None => "",
-    }
+/// The files that a command was at when it ended.
+#[derive(Clone, Copy)]
+pub struct Names<'a> {
+    /// The name that was last read, or nothing.
+    pub read: &'a str,
+    /// The name that was last written, or nothing.
+    pub written: &'a str,
 }
 
 /// Writes the end's text, as a line.
@@ -35,33 +36,53 @@ fn first_line<W: Write>(end: &End, to: &mut W) -> io::Result<()>
     }
 }
 
+/// Writes why a project of this name was refused: the place in the file, and what was expected there.
+fn project_line<W: Write>(error: &ProjectError, name: &str, to: &mut W) -> io::Result<()> {
+    match error {
+        ProjectError::NotJson => writeln!(to, "{name}: no JSON"),
+        ProjectError::Missing(path) => {
+            let path = path.as_str();
+            writeln!(to, "{path}: missing, {}", expected(path))
+        }
+        ProjectError::WrongKind(path) | ProjectError::Limit(path) => {
+            let path = path.as_str();
+            let place = if path.is_empty() { name } else { path };
+            writeln!(to, "{place}: {}", expected(path))
+        }
+        ProjectError::Unknown(path) => writeln!(to, "{}: no field of this name", path.as_str()),
+        ProjectError::Duplicate(id) => writeln!(to, "id {id}: another layer has it"),
+        ProjectError::BadVersion => writeln!(to, "version: {}", expected("version")),
+        ProjectError::NoMemory => Ok(()),
+    }
+}
+
 /// Writes a second line where it helps.
-fn second_line<W: Write>(end: &End, words: &[Text], to: &mut W) -> io::Result<()>
-    ensures { OnOk result (Appends (W.contents to.old) (W.contents to.new) (second_line end.now words.now)) }
+fn second_line<W: Write>(end: &End, names: &Names<'_>, to: &mut W) -> io::Result<()>
+    ensures { OnOk result (IsSecond end.now names.now (W.contents to.old) (W.contents to.new)) }
 {
-    let (csv, out) = (word_at(words, 1), word_at(words, 2));
+    let (read, written) = (names.read, names.written);
     match end {
         End::Usage => writeln!(to, "{FORMS}"),
-        End::BadData(_, error) => writeln!(to, "{csv}: {error}"),
-        End::ReadFault(_) | End::Missing(_) => writeln!(to, "{csv}"),
-        End::WriteFault(Which::Output(_)) => writeln!(to, "{out}"),
+        End::BadProject(error) => project_line(error, read, to),
+        End::BadData(_, error) => writeln!(to, "{read}: {error}"),
+        End::ReadFault(_) | End::Missing(_) => writeln!(to, "{read}"),
+        End::WriteFault(Which::Output(_)) => writeln!(to, "{written}"),
         End::WriteFault(_) | End::Done | End::NoMemory => Ok(()),
     }
 }
 
-/// Writes the lines of an end of these words.
-pub fn tell<W: Write>(end: &End, words: &[Text], to: &mut W) -> io::Result<()>
-    ensures { OnOk result (Appends (W.contents to.old) (W.contents to.new) (lines_of end.now words.now)) }
+/// Writes the lines of an end at these files.
+pub fn tell<W: Write>(end: &End, names: &Names<'_>, to: &mut W) -> io::Result<()>
+    ensures { OnOk result (AreLines end.now names.now (W.contents to.old) (W.contents to.new)) }
 {
     first_line(end, to)?;
-    second_line(end, words, to)
+    second_line(end, names, to)
 }
 
-/// Writes the lines of an end of these words, as far as the writer takes them, and gives the program's
-/// status.
-pub fn conclude<W: Write>(end: &End, words: &[Text], to: &mut W) -> ExitCode
+/// Writes the lines of an end at these files, as far as the writer takes them, and gives the program's status.
+pub fn conclude<W: Write>(end: &End, names: &Names<'_>, to: &mut W) -> ExitCode
     ensures { exit_status result ≡ status_of end.now }
 {
-    let _ = tell(end, words, to);
+    let _ = tell(end, names, to);
     ExitCode::from(end.status())
 }

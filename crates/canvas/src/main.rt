@@ -1,16 +1,18 @@
 //! The program: the real files and standard output behind the top call.
 #![tactic(auto)]
 
+mod expected;
 mod files;
 mod lines;
 mod output;
 
 use crate::files::{FileShelf, FileTray};
-use crate::lines::conclude;
+use crate::lines::{Names, conclude};
 use crate::output::Output;
 use cv_model::{Sequence, Text};
+use cv_open::End;
 use cv_outside::Open;
-use cv_top::{End, run};
+use cv_top::run;
 use std::alloc::{AllocError, Global};
 use std::process::ExitCode;
 use std::{env, io};
@@ -40,18 +42,25 @@ fn main(rt: HostRuntime) -> ExitCode {
     let to = &mut io::writer(&errors);
     let words = match words(&rt) {
         Ok(words) => words,
-        Err(end) => return conclude(&end, &[], to),
+        Err(end) => {
+            let names = Names {
+                read: "",
+                written: "",
+            };
+            return conclude(&end, &names, to);
+        }
     };
-    let end = run(
-        &rt,
-        rt.alloc(),
-        words.as_slice(),
-        &mut FileShelf::new(&rt),
-        &mut FileTray::new(&rt),
-        &mut Output::new(io::writer(&rt)),
-        &Open,
+    let (shelf, tray) = (
+        &mut FileShelf::new(&rt, rt.alloc()),
+        &mut FileTray::new(&rt, rt.alloc()),
     );
-    conclude(&end, words.as_slice(), to)
+    let out = &mut Output::new(io::writer(&rt));
+    let end = run(&rt, rt.alloc(), words.as_slice(), shelf, tray, out, &Open);
+    let names = Names {
+        read: shelf.last(),
+        written: tray.last(),
+    };
+    conclude(&end, &names, to)
 }
 
 #[cfg(test)]

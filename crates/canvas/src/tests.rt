@@ -1,12 +1,16 @@
 //! The command over real files, a writer that fails, and the lines on standard error.
 use crate::end_of_words;
 use crate::files::{FileShelf, FileTray};
-use crate::lines::conclude;
+use crate::lines::{Names, conclude};
 use crate::output::Output;
 use cv_dtext::TextError;
+use cv_grid::GridError;
+use cv_model::Text;
+use cv_open::{DataError, End, Which};
 use cv_outside::{Unwritten, write_all};
+use cv_project::ProjectError;
 use cv_testing::{pixmap, words_of};
-use cv_top::{DataError, End, Which, run_once};
+use cv_top::run_once;
 use std::alloc::{AllocError, Global};
 use std::io::Write;
 use std::process::ExitCode;
@@ -25,8 +29,8 @@ fn play<R: Files + Print + AllocGlobal>(rt: &R, line: &str) -> End {
         Ok(words) => run_once(
             rt.alloc(),
             words.as_slice(),
-            &mut FileShelf::new(rt),
-            &mut FileTray::new(rt),
+            &mut FileShelf::new(rt, rt.alloc()),
+            &mut FileTray::new(rt, rt.alloc()),
             &mut Output::new(io::writer(rt)),
         ),
         Err(_) => End::NoMemory,
@@ -36,24 +40,14 @@ fn play<R: Files + Print + AllocGlobal>(rt: &R, line: &str) -> End {
 #[test]
 fn real_files_are_read_and_written(rt: HostRuntime) -> Result<(), Fail> {
     fs::write(&rt, "map.csv", TEXT)?;
-    let (layer, output) = (Which::Layer(0), Which::Output(1));
     for (line, want) in [
-        ("quick map.csv map.ppm 4 4 0 0 4 4 010203", End::Done),
-        (
-            "quick none.csv map.ppm 4 4 0 0 4 4 010203",
-            End::Missing(layer),
-        ),
-        ("quick . map.ppm 4 4 0 0 4 4 010203", End::ReadFault(layer)),
-        (
-            "quick map.csv/x map.ppm 4 4 0 0 4 4 010203",
-            End::ReadFault(layer),
-        ),
-        (
-            "quick map.csv . 4 4 0 0 4 4 010203",
-            End::WriteFault(output),
-        ),
+        ("quick map.csv map.ppm 4 4 0 0 4 4 010203", 0),
+        ("quick none.csv map.ppm 4 4 0 0 4 4 010203", 8),
+        ("quick . map.ppm 4 4 0 0 4 4 010203", 6),
+        ("quick map.csv/x map.ppm 4 4 0 0 4 4 010203", 6),
+        ("quick map.csv . 4 4 0 0 4 4 010203", 7),
     ] {
-        assert_eq!(rt; play(&rt, line), want, "{line}");
+        assert_eq!(rt; play(&rt, line).status(), want, "{line}");
     }
     let picture = fs::read(&rt, "map.ppm")?;
     let want = pixmap(rt.alloc(), "4 4", "####/#.##/####/##..", INK)?;
@@ -66,7 +60,7 @@ fn real_files_are_read_and_written(rt: HostRuntime) -> Result<(), Fail> {
 fn a_large_picture_is_written_whole(rt: HostRuntime) -> Result<(), Fail> {
     fs::write(&rt, "map.csv", TEXT)?;
     let end = play(&rt, "quick map.csv wide.ppm 512 512 0 0 4 4 010203");
-    assert_eq!(rt; end, End::Done);
+    assert_eq!(rt; end.status(), 0);
     let picture = fs::read(&rt, "wide.ppm")?;
     assert_eq!(rt; picture.len(), 786_447);
     for (at, want) in [(784_911, 1), (785_678, 3), (785_679, 255), (786_446, 255)] {
@@ -91,7 +85,7 @@ fn the_last_record_of_a_long_file_is_painted(rt: HostRuntime) -> Result<(), Fail
     assert!(rt; text.len() > 200_000);
     fs::write(&rt, "long.csv", text.as_slice())?;
     let end = play(&rt, "quick long.csv long.ppm 4 4 0 0 4 4 010203");
-    assert_eq!(rt; end, End::Done);
+    assert_eq!(rt; end.status(), 0);
     let picture = fs::read(&rt, "long.ppm")?;
     let want = pixmap(rt.alloc(), "4 4", "####/####/..../....", INK)?;
     assert_eq!(rt; picture.as_slice(), want.as_slice());
@@ -138,41 +132,84 @@ fn a_writer_that_fails_is_a_fault(rt: HostRuntime) -> Result<(), Fail> {
     Ok(())
 }
 
+// What standard error gets at an end, behind a last file to read and one to write.
+fn told(alloc: Global, end: &End) -> Vec<u8> {
+    let names = Names {
+        read: "sq.csv",
+        written: "sq.ppm",
+    };
+    let mut told = Vec::new(alloc);
+    let _ = conclude(end, &names, &mut told);
+    told
+}
+
 #[test]
-fn an_end_has_its_lines_and_its_status(rt: HostRuntime) -> Result<(), Fail> {
-    let words = words_of(rt.alloc(), "quick sq.csv sq.ppm")?;
-    let uneven = DataError::Text(TextError::Uneven(3));
-    for (end, status, lines) in [
-        (End::Done, 0, ""),
-        (End::NoMemory, 1, "out of memory\n"),
-        (
-            end_of_words(io::ErrorKind::InvalidData),
-            2,
-            "usage\nquick <csv> <out> <w> <h> <xmin> <ymin> <xmax> <ymax> <rrggbb>\n",
-        ),
-        (
-            end_of_words(io::ErrorKind::OutOfMemory),
-            1,
-            "out of memory\n",
-        ),
-        (
-            End::BadData(0, uneven),
-            4,
-            "bad data in layer 0\nsq.csv: another number of fields in record 3\n",
-        ),
-        (End::ReadFault(Which::Layer(0)), 6, "read fault\nsq.csv\n"),
-        (
-            End::WriteFault(Which::Output(1)),
-            7,
-            "write fault\nsq.ppm\n",
-        ),
-        (End::WriteFault(Which::Text), 7, "write fault\n"),
-        (End::Missing(Which::Layer(0)), 8, "file missing\nsq.csv\n"),
-    ] {
-        let mut told = Vec::new(rt.alloc());
-        let code = conclude(&end, words.as_slice(), &mut told);
-        assert_eq!(rt; code, ExitCode::from(status), "{lines}");
-        assert_eq!(rt; told.as_slice(), lines.as_bytes(), "{lines}");
-    }
+fn words_that_are_no_form_have_the_forms(rt: HostRuntime) -> Result<(), Fail> {
+    let end = end_of_words(io::ErrorKind::InvalidData);
+    let want =
+        "usage\nquick <csv> <out> <w> <h> <xmin> <ymin> <xmax> <ymax> <rrggbb>\ncheck <project>\n";
+    assert_eq!(rt; told(rt.alloc(), &end).as_slice(), want.as_bytes());
+    let end = end_of_words(io::ErrorKind::OutOfMemory);
+    assert_eq!(rt;
+        told(rt.alloc(), &end).as_slice(),
+        b"out of memory\n".as_slice()
+    );
+    Ok(())
+}
+
+#[test]
+fn refused_data_has_its_file_and_its_place(rt: HostRuntime) -> Result<(), Fail> {
+    let end = End::BadData(0, DataError::Text(TextError::Uneven(3)));
+    let want = "bad data in layer 0\nsq.csv: another number of fields in record 3\n";
+    assert_eq!(rt; told(rt.alloc(), &end).as_slice(), want.as_bytes());
+    let end = End::BadData(1, DataError::Grid(GridError::TooFew(3)));
+    let want = "bad data in layer 1\nsq.csv: only 3 values\n";
+    assert_eq!(rt; told(rt.alloc(), &end).as_slice(), want.as_bytes());
+    Ok(())
+}
+
+#[test]
+fn a_failed_file_has_its_name(rt: HostRuntime) -> Result<(), Fail> {
+    let end = End::Missing(Which::Project);
+    assert_eq!(rt;
+        told(rt.alloc(), &end).as_slice(),
+        b"file missing\nsq.csv\n".as_slice()
+    );
+    let end = End::WriteFault(Which::Output(1));
+    assert_eq!(rt;
+        told(rt.alloc(), &end).as_slice(),
+        b"write fault\nsq.ppm\n".as_slice()
+    );
+    let end = End::WriteFault(Which::Text);
+    assert_eq!(rt;
+        told(rt.alloc(), &end).as_slice(),
+        b"write fault\n".as_slice()
+    );
+    Ok(())
+}
+
+#[test]
+fn a_refused_project_has_its_place(rt: HostRuntime) -> Result<(), Fail> {
+    let path = Text::of(rt.alloc(), "layers[0].opacity")?;
+    let end = End::BadProject(ProjectError::Limit(path));
+    let want = "bad project\nlayers[0].opacity: a whole number from 0 to 255\n";
+    assert_eq!(rt; told(rt.alloc(), &end).as_slice(), want.as_bytes());
+    let end = End::BadProject(ProjectError::NotJson);
+    assert_eq!(rt;
+        told(rt.alloc(), &end).as_slice(),
+        b"bad project\nsq.csv: no JSON\n".as_slice()
+    );
+    Ok(())
+}
+
+#[test]
+fn an_end_has_its_status(rt: HostRuntime) -> Result<(), Fail> {
+    let names = Names {
+        read: "",
+        written: "",
+    };
+    let mut told = Vec::new(rt.alloc());
+    let code = conclude(&End::Usage, &names, &mut told);
+    assert_eq!(rt; code, ExitCode::from(2));
     Ok(())
 }

@@ -21,3 +21,6 @@ pub use layer::{Layered, read_layer};
 pub use opening::{Opened, open};
 pub use reports::report;
 pub use room::Left;
+
+#[cfg(test)]
+mod tests;

@@ -2,7 +2,7 @@
 use Rattle.std.proofs.Common.{◌≡◌, ◌<◌, ℕ, List, length, Option, Some, None, IsSomeAnd, Err, cond, ap}
 use Rattle.std.proofs.lemmas.Bool.{lt-ltb}
 use Rattle.cv_dtext.specs.Refusals.{features_of}
-use Rattle.cv_top.specs.declared.ends.DataError.TheVariants.{TooLong}
+use Rattle.cv_open.specs.declared.ends.DataError.TheVariants.{TooLong}
 use Rattle.cv_model.specs.declared.limits.TheConstants.{MOST_BYTES}
 use Rattle.cv_top.specs.Opened.{quick_options, as_layer, layer_of}
 

@@ -2,3 +2,4 @@
 pub mod WordLemmas
 pub mod LayerLemmas
 pub mod RunLemmas
+pub mod OpenLemmas

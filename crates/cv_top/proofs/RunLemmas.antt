@@ -10,17 +10,18 @@ use Rattle.cv_outside.specs.declared.trays.Tray.{Ghosts as TrayGhosts}
 use Rattle.cv_outside.specs.Counts.{Rose}
 use Rattle.cv_outside.specs.Seen.{ShelfSeen, TraySeen, SinkSeen, shelf_seen, tray_seen, sink_seen, ShelfStands, TrayStands, SinkStands}
 use Rattle.cv_outside.specs.Whole.{IsUnread, UnreadAsks, UnreadCause}
-use Rattle.cv_top.specs.declared.ends.DataError.TheVariants.{TooLong}
-use Rattle.cv_top.specs.declared.ends.End.{End}
-use Rattle.cv_top.specs.declared.ends.End.TheVariants.{Done, NoMemory, Usage, BadData, ReadFault, WriteFault, Missing}
-use Rattle.cv_top.specs.declared.ends.Which.{Which}
-use Rattle.cv_top.specs.declared.ends.Which.TheVariants.{Layer, Output, Text}
+use Rattle.cv_open.specs.declared.ends.DataError.TheVariants.{TooLong}
+use Rattle.cv_open.specs.declared.ends.End.{End}
+use Rattle.cv_open.specs.declared.ends.End.TheVariants.{Done, NoMemory, Usage, BadProject, BadData, ReadFault, WriteFault, Missing}
+use Rattle.cv_open.specs.declared.ends.Which.{Which}
+use Rattle.cv_open.specs.declared.ends.Which.TheVariants.{Project, Layer, Output, Text}
 use Rattle.cv_top.specs.declared.orders.Order.{Order}
 use Rattle.cv_top.specs.declared.orders.Order.TheVariants.{Quick}
 use Rattle.cv_top.specs.Words.{IsOrder}
 use Rattle.cv_model.specs.declared.limits.TheConstants.{MOST_BYTES}
 use Rattle.cv_top.specs.Opened.{layer_of}
-use Rattle.cv_top.specs.Outcomes.{Asked, Product, Outcome, FilesFound, end_of, files_of, text_of, quick_asks, quick_layer, quick_product}
+use Rattle.cv_top.specs.Outcomes.{Product, Outcome, end_of, files_of, text_of, quick_asks, quick_layer, quick_product}
+use Rattle.cv_open.specs.Readings.{Asked, FilesFound}
 use Rattle.cv_top.specs.Parts.{QuickParts}
 use Rattle.cv_top.proofs.LayerLemmas.{long_is_refused}
 use Rattle.cv_top.specs.Runs.{HasCause, Asks, Keeps, Prints, IsComplete, IsAskedAt, Untouched, Obeys, IsRun, IsRunOf, IsWritten, IsNoFault}
@@ -31,11 +32,13 @@ pub more_causes : (end : End) (p : Product) (read : Which → Type 0) (miss writ
 more_causes Done p read miss write print h = h
 more_causes NoMemory p read miss write print h = h
 more_causes Usage p read miss write print h = h
+more_causes (BadProject error) p read miss write print h = h
 more_causes (BadData place error) p read miss write print h = h
 more_causes (Missing which) p read miss write print h = absurd h.1
 more_causes (ReadFault which) p read miss write print h = absurd h
 more_causes (WriteFault (Output k)) p read miss write print h = h
 more_causes (WriteFault Text) p read miss write print h = h
+more_causes (WriteFault Project) p read miss write print h = h
 more_causes (WriteFault (Layer place)) p read miss write print h = h
 
 -- an end whose cause is no fault is the product's, or want of memory
@@ -44,11 +47,13 @@ pub completes : (end : End) (p : Product) (read : Which → Type 0) (miss write 
 completes Done p read miss write print any h some r wp = inl (sym h)
 completes NoMemory p read miss write print any h some r wp = inr refl
 completes Usage p read miss write print any h some r wp = absurd h
+completes (BadProject error) p read miss write print any h some r wp = inl (sym h)
 completes (BadData place error) p read miss write print any h some r wp = inl (sym h)
 completes (Missing which) p read miss write print any h some r wp = inl (sym h.0)
 completes (ReadFault which) p read miss write print any h some r wp = absurd (r (some which h))
 completes (WriteFault (Output k)) p read miss write print any h some r wp = absurd ((wp h.0).0 h.3)
 completes (WriteFault Text) p read miss write print any h some r wp = absurd ((wp h.0).1 h.1)
+completes (WriteFault Project) p read miss write print any h some r wp = absurd h
 completes (WriteFault (Layer place)) p read miss write print any h some r wp = absurd h
 
 -- an end with a cause is not Usage
@@ -59,8 +64,8 @@ not_usage end p read miss write print h is = subst (λ (e : End). HasCause e p r
 -- files that every read finds so: the shelf's own, where it tells
 pub found : (tells : Bool) (files : List ℕ → Option (List ℕ)) (name : List ℕ) (file : Option (List ℕ))
     → (IsTrue tells → file ≡ files name)
-    → (reads : FilesFound) × (IsTrue tells → (n : ℕ) → reads n ≡ files) × (reads 0 name ≡ file)
-found true files name file same = (λ _. files, λ _ _. refl, sym (same refl))
+    → (reads : FilesFound) × (IsTrue tells → (n : ℕ) (q : List ℕ) → reads n q ≡ files q) × (reads 0 name ≡ file)
+found true files name file same = (λ _. files, λ _ _ _. refl, sym (same refl))
 found false files name file same = (λ _ _. file, λ t. absurd (cc), refl)
 
 -- a run of `quick` over the file that its read saw
@@ -87,11 +92,12 @@ quick_run order end shelf shelf' tray tray' out out' file same cause names outpu
     }
 
 -- all names are asked where no read failed
-asks_all : (end : End) (p : Product) (miss write print : Type 0) (asked : List Asked) (old new : List (List ℕ))
+pub asks_all : (end : End) (p : Product) (miss write print : Type 0) (asked : List Asked) (old new : List (List ℕ))
     → HasCause end p (λ _. ⊥) miss write print → new ≡ old ++ map (λ a. a.name) asked → Asks end asked old new
 asks_all Done p miss write print asked old new h e = e
 asks_all NoMemory p miss write print asked old new h e = (length asked, e ∙ ap (λ l. old ++ map (λ a. a.name) l) (sym (take-length asked)))
 asks_all Usage p miss write print asked old new h e = e
+asks_all (BadProject error) p miss write print asked old new h e = e
 asks_all (BadData place error) p miss write print asked old new h e = e
 asks_all (Missing which) p miss write print asked old new h e = e
 asks_all (ReadFault which) p miss write print asked old new h e = absurd h
@@ -138,11 +144,13 @@ untouched_more : (end : End) (shelf tray out : Type 0) → Untouched end ⊥ tra
 untouched_more Done shelf tray out h = h
 untouched_more NoMemory shelf tray out h = h
 untouched_more Usage shelf tray out h = absurd h.0
+untouched_more (BadProject error) shelf tray out h = h
 untouched_more (BadData place error) shelf tray out h = h
 untouched_more (Missing which) shelf tray out h = h
 untouched_more (ReadFault which) shelf tray out h = h
 untouched_more (WriteFault (Output k)) shelf tray out h = h
 untouched_more (WriteFault Text) shelf tray out h = h
+untouched_more (WriteFault Project) shelf tray out h = h
 untouched_more (WriteFault (Layer place)) shelf tray out h = h
 
 -- without a fault no end is one
@@ -151,11 +159,13 @@ not_fault : (end : End) (p : Product) (read : Which → Type 0) (miss write prin
 not_fault Done p read miss write print h r w o = tt
 not_fault NoMemory p read miss write print h r w o = tt
 not_fault Usage p read miss write print h r w o = tt
+not_fault (BadProject error) p read miss write print h r w o = tt
 not_fault (BadData place error) p read miss write print h r w o = tt
 not_fault (Missing which) p read miss write print h r w o = tt
 not_fault (ReadFault which) p read miss write print h r w o = r which h
 not_fault (WriteFault (Output k)) p read miss write print h r w o = w h.3
 not_fault (WriteFault Text) p read miss write print h r w o = o h.1
+not_fault (WriteFault Project) p read miss write print h r w o = h
 not_fault (WriteFault (Layer place)) p read miss write print h r w o = h
 
 -- an end that would be a fault only at no form is none
@@ -163,6 +173,7 @@ faultless : (end : End) (form : Type 0) → (form → end ≡ Usage) → ((IsNoF
 faultless Done form usage h = tt
 faultless NoMemory form usage h = tt
 faultless Usage form usage h = tt
+faultless (BadProject error) form usage h = tt
 faultless (BadData place error) form usage h = tt
 faultless (Missing which) form usage h = tt
 faultless (ReadFault which) form usage h = let e = usage (h (λ x. x)) in absurd (cc)
@@ -189,3 +200,17 @@ module _ {F T O : Type 0} (f : ShelfGhosts F) (t : TrayGhosts T) (o : SinkGhosts
   no_fault ran read write print =
       faultless end _ ran.usage.1
       (λ fault order q. fault (not_fault end _ _ _ _ _ (ran.run order q).cause (λ which r. read r.2) write print))
+
+-- a tray that nothing was written to is untouched
+pub untouched_tray : (end : End) (tray out : Type 0) → tray → Untouched end ⊥ (Unit {0}) out → Untouched end ⊥ tray out
+untouched_tray Done tray out same h = h
+untouched_tray NoMemory tray out same h = h
+untouched_tray Usage tray out same h = absurd h.0
+untouched_tray (BadProject error) tray out same h = (same, h.1)
+untouched_tray (BadData place error) tray out same h = (same, h.1)
+untouched_tray (Missing which) tray out same h = (same, h.1)
+untouched_tray (ReadFault which) tray out same h = (same, h.1)
+untouched_tray (WriteFault (Output k)) tray out same h = h
+untouched_tray (WriteFault Text) tray out same h = h
+untouched_tray (WriteFault Project) tray out same h = h
+untouched_tray (WriteFault (Layer place)) tray out same h = h

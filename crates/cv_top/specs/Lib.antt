@@ -3,5 +3,4 @@ pub mod Parts
 pub mod Words
 pub mod Opened
 pub mod Outcomes
-pub mod Ends
 pub mod Runs

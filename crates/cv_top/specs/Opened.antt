@@ -14,8 +14,8 @@ use Rattle.cv_dtext.specs.declared.options.TextOptions.{TextOptions}
 use Rattle.cv_dtext.specs.declared.options.TextError.{TextError}
 use Rattle.cv_paint.specs.Plain.{features_project}
 use Rattle.cv_dtext.specs.Refusals.{features_of}
-use Rattle.cv_top.specs.declared.ends.DataError.{DataError}
-use Rattle.cv_top.specs.declared.ends.DataError.TheVariants.{Text, TooLong}
+use Rattle.cv_open.specs.declared.ends.DataError.{DataError}
+use Rattle.cv_open.specs.declared.ends.DataError.TheVariants.{Text, TooLong}
 
 -- how `quick` reads a delimited text: between commas, with the geometry under `wkt`, and how much at most
 abbrev pub quick_options : TextOptions

@@ -3,20 +3,19 @@ use Rattle.std.specs.Prelude.{◌≡◌, ℕ, List, [], ◌∷◌, ◌++◌, cod
 use Rattle.std.specs.Fmt.{decimal}
 use Rattle.cv_model.specs.Features.{FeatureTable}
 use Rattle.cv_model.specs.Views.{PixelGrid}
-use Rattle.cv_top.specs.declared.ends.DataError.{DataError}
-use Rattle.cv_top.specs.declared.ends.End.{End}
-use Rattle.cv_top.specs.declared.ends.End.TheVariants.{Done, BadData, Missing}
-use Rattle.cv_top.specs.declared.ends.Which.{Which}
-use Rattle.cv_top.specs.declared.ends.Which.TheVariants.{Layer}
+use Rattle.cv_open.specs.declared.ends.DataError.{DataError}
+use Rattle.cv_open.specs.declared.ends.End.{End}
+use Rattle.cv_open.specs.declared.ends.End.TheVariants.{Done, BadData, Missing}
+use Rattle.cv_open.specs.declared.ends.Which.{Which}
+use Rattle.cv_open.specs.declared.ends.Which.TheVariants.{Layer}
 use Rattle.cv_top.specs.declared.orders.Order.{Order}
-use Rattle.cv_top.specs.declared.orders.Order.TheVariants.{Quick}
+use Rattle.cv_top.specs.declared.orders.Order.TheVariants.{Quick, Check}
+use Rattle.cv_open.specs.declared.opening.Opened.{Opened}
+use Rattle.cv_open.specs.Opened.{opened}
+use Rattle.cv_open.specs.Readings.{Asked, FilesFound, Reading}
+use Rattle.cv_open.specs.Reports.{report_of}
 use Rattle.cv_top.specs.Parts.{QuickParts}
 use Rattle.cv_top.specs.Opened.{layer_of, picture_bytes}
-
--- a name that is asked of the shelf, and whose file that is
-pub record Asked : Type 0 where
-  pub which : Which
-  pub name : List ℕ
 
 -- a file that is put into the tray
 pub record Written : Type 0 where
@@ -48,9 +47,14 @@ abbrev pub text_of : Product → List ℕ
 text_of (Refused end) = []
 text_of (Made files text) = text
 
--- the bytes under a name, as each read of a run finds them, counted from 0
-abbrev pub FilesFound : Type 0
-FilesFound = ℕ → List ℕ → Option (List ℕ)
+-- what comes of reads: a refusal, or what is made of the value that they gave
+abbrev pub product_from : {X : Type 0} → (X → Product) → Result X End → Product
+product_from make (Ok x) = make x
+product_from make (Err end) = Refused end
+
+-- what a command gives that makes this of some reads
+abbrev pub outcome_from : {X : Type 0} → (X → Product) → Reading X → Outcome
+outcome_from make r = record { asked = r.asked; product = product_from make r.given }
 
 -- what `quick` and `paint` print: the size of the picture
 abbrev pub image_line : PixelGrid → List ℕ
@@ -75,7 +79,12 @@ quick_product order (Some bytes) = quick_layer order (layer_of bytes)
 abbrev pub quick_asks : QuickParts → List Asked
 quick_asks order = record { which = Layer 0; name = order.csv } ∷ []
 
+-- `check` prints the report on what was opened
+abbrev pub checked : Opened → Product
+checked opened = Made [] (report_of opened)
+
 -- what an order gives over the files that its reads find
 abbrev pub IsOutcome : Order → FilesFound → Outcome → Type 0
 IsOutcome (Quick order) reads o =
     o ≡ record { asked = quick_asks order; product = quick_product order (reads 0 order.csv) }
+IsOutcome (Check order) reads o = o ≡ outcome_from checked (opened order.project reads)

@@ -9,3 +9,7 @@ pub record QuickParts : Type 0 where
   pub out : List ℕ
   pub view : PixelGrid
   pub fill : Rgb
+
+-- what the words of `check` ask for: the project to open
+pub record CheckParts : Type 0 where
+  pub project : List ℕ

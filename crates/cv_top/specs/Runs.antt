@@ -10,13 +10,14 @@ use Rattle.cv_outside.specs.Reads.{SameFiles}
 use Rattle.cv_outside.specs.Seen.{NamedFiles, ShelfSeen, TraySeen, SinkSeen, shelf_seen, tray_seen, sink_seen}
 use Rattle.cv_outside.specs.Seen.{ShelfStands, TrayStands, SinkStands}
 use Rattle.cv_outside.specs.Writes.{OthersStay, Writes}
-use Rattle.cv_top.specs.declared.ends.End.{End}
-use Rattle.cv_top.specs.declared.ends.End.TheVariants.{Done, NoMemory, Usage, BadData, Missing}
-use Rattle.cv_top.specs.declared.ends.End.TheVariants.{ReadFault, WriteFault}
-use Rattle.cv_top.specs.declared.ends.Which.{Which}
-use Rattle.cv_top.specs.declared.ends.Which.TheVariants.{Layer, Output, Text}
+use Rattle.cv_open.specs.declared.ends.End.{End}
+use Rattle.cv_open.specs.declared.ends.End.TheVariants.{Done, NoMemory, Usage, BadProject, BadData, Missing}
+use Rattle.cv_open.specs.declared.ends.End.TheVariants.{ReadFault, WriteFault}
+use Rattle.cv_open.specs.declared.ends.Which.{Which}
+use Rattle.cv_open.specs.declared.ends.Which.TheVariants.{Project, Layer, Output, Text}
 use Rattle.cv_top.specs.declared.orders.Order.{Order}
-use Rattle.cv_top.specs.Outcomes.{Asked, Written, Product, Outcome, FilesFound, IsOutcome}
+use Rattle.cv_open.specs.Readings.{Asked, FilesFound, AreOf}
+use Rattle.cv_top.specs.Outcomes.{Written, Product, Outcome, IsOutcome}
 use Rattle.cv_top.specs.Outcomes.{end_of, files_of, text_of}
 use Rattle.cv_top.specs.Words.{IsOrder, IsNoForm}
 
@@ -30,23 +31,27 @@ abbrev pub HasCause : End → Product → (read : Which → Type 0) → (miss wr
 HasCause Done p read miss write print = end_of p ≡ Done
 HasCause NoMemory p read miss write print = Unit {0}
 HasCause Usage p read miss write print = ⊥
+HasCause (BadProject error) p read miss write print = end_of p ≡ BadProject error
 HasCause (BadData place error) p read miss write print = end_of p ≡ BadData place error
 HasCause (Missing which) p read miss write print = (end_of p ≡ Missing which) × miss
 HasCause (ReadFault which) p read miss write print = read which
 HasCause (WriteFault (Output k)) p read miss write print =
     (end_of p ≡ Done) × (1 ≤ k) × (k ≤ length (files_of p)) × write
 HasCause (WriteFault Text) p read miss write print = (end_of p ≡ Done) × print
+HasCause (WriteFault Project) p read miss write print = ⊥
 HasCause (WriteFault (Layer place)) p read miss write print = ⊥
 
 -- what no call was made on: at no form the three devices, at a refusal and a failed read tray and sink, at
 -- an output's fault the sink
 abbrev pub Untouched : End → (shelf tray out : Type 0) → Type 0
 Untouched Usage shelf tray out = shelf × tray × out
+Untouched (BadProject error) shelf tray out = tray × out
 Untouched (BadData place error) shelf tray out = tray × out
 Untouched (ReadFault which) shelf tray out = tray × out
 Untouched (Missing which) shelf tray out = tray × out
 Untouched (WriteFault (Output k)) shelf tray out = out
 Untouched (WriteFault Text) shelf tray out = Unit {0}
+Untouched (WriteFault Project) shelf tray out = ⊥
 Untouched (WriteFault (Layer place)) shelf tray out = ⊥
 Untouched Done shelf tray out = Unit {0}
 Untouched NoMemory shelf tray out = Unit {0}
@@ -106,7 +111,7 @@ pub record IsRunOf
     (order : Order) (end : End) (shelf shelf' : ShelfSeen) (tray tray' : TraySeen) (out out' : SinkSeen)
     : Type 0 where
   pub reads : FilesFound
-  pub told : IsTrue shelf.tells → (n : ℕ) → reads n ≡ shelf.files
+  pub told : AreOf shelf reads
   pub outcome : Outcome
   pub gives : IsOutcome order reads outcome
   pub cause :

@@ -3,9 +3,9 @@
 ghost use Rattle.std.specs.Prelude.{◌≡◌, ◌≤◌, length, codes, IfOk};
 ghost use Rattle.cv_top.specs.Opened.{quick_options, layer_of};
 
-use crate::ends::DataError;
 use cv_dtext::{TextError, TextOptions};
 use cv_model::{Delimiter, FeatureList, MOST_BYTES, NoMemory, Room, Text};
+use cv_open::DataError;
 use std::alloc::{AllocError, Global};
 
 /// How much is read of a file.

@@ -2,12 +2,12 @@
 //!
 //! Contract: a run is what the words ask for over the files that it read (`IsRun`): at each end what was
 //! asked, read, written and printed, with the cause of each answer outside.
-//! Definitions: `Parts`, `Words`, `Opened`, `Outcomes`, `Ends` and `Runs` of this crate, over those of
-//! `cv_model` and `cv_dtext`.
+//! Definitions: `Parts`, `Words`, `Opened`, `Outcomes` and `Runs` of this crate, over those of `cv_model`,
+//! `cv_dtext` and `cv_open`.
 //! Takes memory for what is read and painted; `run` takes a handle that may wait, and doesn't wait.
 #![tactic(auto)]
 
-mod ends;
+mod check;
 mod layer;
 mod orders;
 mod outputs;
@@ -15,8 +15,10 @@ mod quick;
 mod top;
 mod words;
 
-pub use ends::{DataError, End, Which};
+pub use cv_open::{DataError, End, Which};
 pub use top::{run, run_once, run_surely};
 
+#[cfg(test)]
+mod check_tests;
 #[cfg(test)]
 mod tests;

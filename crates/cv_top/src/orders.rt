@@ -8,6 +8,8 @@ use std::marker::Model;
 pub enum Order<'a> {
     /// One delimited text is painted over white.
     Quick(QuickOrder<'a>),
+    /// A project is opened, and a report on it is printed.
+    Check(CheckOrder<'a>),
 }
 
 /// What the words of `quick` ask for.
@@ -29,4 +31,19 @@ impl<'a> Model for QuickOrder<'a> {
     ghost Value = { QuickParts };
 
     ghost view = { λ q. record { csv = q.csv.now; out = q.out.now; view = q.view; fill = q.fill } };
+}
+
+/// What the words of `check` ask for.
+#[derive(Debug, Drop)]
+pub struct CheckOrder<'a> {
+    /// The name of the project.
+    pub project: &'a str,
+}
+
+impl<'a> Model for CheckOrder<'a> {
+    ghost use Rattle.cv_top.specs.Parts.{CheckParts};
+
+    ghost Value = { CheckParts };
+
+    ghost view = { λ q. record { project = q.project.now } };
 }

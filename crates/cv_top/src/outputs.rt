@@ -1,12 +1,12 @@
 //! What a command writes: its picture and its text.
 
-ghost use Rattle.std.specs.Prelude.{◌≡◌, IfOk, string_bytes};
-ghost use Rattle.cv_outside.specs.Seen.{tray_seen, sink_seen};
-ghost use Rattle.cv_top.specs.Outcomes.{image_line, one_made};
+ghost use Rattle.std.specs.Prelude.{◌≡◌, [], IfOk, string_bytes};
+ghost use Rattle.cv_outside.specs.Seen.{TraySeen, tray_seen, sink_seen};
+ghost use Rattle.cv_top.specs.Outcomes.{Made, image_line, one_made};
 ghost use Rattle.cv_top.specs.Runs.{Untouched, IsWritten};
 
-use crate::ends::{End, Which};
 use cv_model::{NoMemory, View};
+use cv_open::{End, Which};
 use cv_outside::{Sink, Tray, TrayEnd, Unwritten, write_all};
 use std::alloc::Global;
 
@@ -17,6 +17,19 @@ pub(crate) fn image_line(alloc: Global, view: &View) -> Result<String, NoMemory>
     let (w, h) = (view.w, view.h);
     let line = format!(in alloc; "image {w} {h}\n")?;
     Ok(line)
+}
+
+/// Writes a text.
+pub(crate) fn write_text<O: Sink>(text: &[u8], out: &mut O) -> End
+    ensures untouched { Untouched result ⊥ ⊥ (out.new ≡ out.old) }
+    ensures written { (tray : TraySeen) → IsWritten result (Made [] text.now) tray tray
+        (sink_seen O.Sink out.old) (sink_seen O.Sink out.new) }
+{
+    match write_all(out, text) {
+        Ok(()) => End::Done,
+        Err(Unwritten::Failed) => End::WriteFault(Which::Text),
+        Err(Unwritten::NoMemory) => End::NoMemory,
+    }
 }
 
 /// Writes the output's bytes under the name, and then the text.

@@ -7,12 +7,12 @@ ghost use Rattle.cv_top.specs.Opened.{layer_of, picture_bytes};
 ghost use Rattle.cv_top.specs.Outcomes.{quick_layer};
 ghost use Rattle.cv_top.specs.Runs.{Untouched, IsWritten, Obeys};
 
-use crate::ends::{DataError, End, Which};
 use crate::layer::read_layer;
 use crate::orders::{Order, QuickOrder};
 use crate::outputs::{image_line, write_outputs};
 use cv_image::ppm;
 use cv_model::{FeatureList, MOST_BYTES, NoMemory, Rgb, Rgba, Symbol, View};
+use cv_open::{DataError, End, Which};
 use cv_outside::{Shelf, Sink, Tray, Unread, read_file};
 use std::alloc::Global;
 

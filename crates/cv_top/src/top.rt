@@ -2,11 +2,12 @@
 
 ghost use Rattle.cv_top.specs.Runs.{IsRun, Obeys, IsNoFault};
 
-use crate::ends::End;
+use crate::check::check;
 use crate::orders::Order;
 use crate::quick::quick;
 use crate::words::order_of;
 use cv_model::Text;
+use cv_open::End;
 use cv_outside::{Gate, Shelf, Sink, SureShelf, SureSink, SureTray, Tray};
 use std::alloc::Global;
 use std::sync::Wait;
@@ -17,6 +18,10 @@ use std::thread::Threads;
 /// `quick <csv> <out> <w> <h> <xmin> <ymin> <xmax> <ymax> <rrggbb>` reads the delimited text, whose column
 /// `wkt` has the geometries in well-known text, paints their polygons with the fill over white at the view of
 /// the extent, writes the picture as a pixmap, and prints `image w h`.
+///
+/// `check <project>` opens the project, with the files of all its layers, and prints for each layer its counts
+/// and the notes on its refused geometries, then the counts of the project, and then the project as it is
+/// written.
 pub fn run_once<F: Shelf, T: Tray, O: Sink>(
     alloc: Global,
     words: &[Text],
@@ -46,6 +51,7 @@ fn obey<F: Shelf, T: Tray, O: Sink>(
 {
     match order {
         Order::Quick(order) => quick(alloc, order, shelf, tray, out),
+        Order::Check(order) => check(alloc, order, shelf, out),
     }
 }
 

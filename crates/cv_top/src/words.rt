@@ -7,10 +7,11 @@ ghost use Rattle.cv_model.specs.declared.colour.Rgb.{Rgb};
 ghost use Rattle.cv_model.specs.Positions.{Rectangle, IsCoordinate};
 ghost use Rattle.cv_model.specs.Views.{PixelGrid};
 ghost use Rattle.cv_top.specs.declared.orders.Order.{Order};
-ghost use Rattle.cv_top.specs.Parts.{QuickParts};
-ghost use Rattle.cv_top.specs.Words.{IsCount, IsColour, IsValueOf, IsExtentOf, IsViewOf, IsQuick, IsOrder};
+ghost use Rattle.cv_top.specs.Parts.{QuickParts, CheckParts};
+ghost use Rattle.cv_top.specs.Words.{IsCount, IsColour, IsValueOf, IsExtentOf, IsViewOf, IsQuick};
+ghost use Rattle.cv_top.specs.Words.{IsCheck, IsOrder, is_plain};
 
-use crate::orders::{Order, QuickOrder};
+use crate::orders::{CheckOrder, Order, QuickOrder};
 use cv_decimal::Fixed;
 use cv_geom::view_of;
 use cv_model::{Extent, Rgb, Text, View};
@@ -20,8 +21,43 @@ pub fn order_of(words: &[Text]) -> Option<Order<'_>>
     ensures found { IfSome result (λ order. IsOrder words.now order) }
     ensures only { (order : Order) → IsOrder words.now order → result ≡ Some order }
 {
-    let quick = quick_order(words)?;
-    Some(Order::Quick(quick))
+    match check_order(words) {
+        Some(order) => Some(Order::Check(order)),
+        None => Some(Order::Quick(quick_order(words)?)),
+    }
+}
+
+/// Whether a word may name a file: it isn't empty, and doesn't begin with a hyphen.
+fn is_plain(word: &[u8]) -> bool
+    ensures { result ≡ is_plain word.now }
+{
+    match word.first() {
+        Some(byte) => *byte != b'-',
+        None => false,
+    }
+}
+
+/// Whether a word is the command `check`.
+fn is_check(word: &str) -> bool
+    ensures { IsTrue result ↔ (word.now ≡ codes "check") }
+{
+    word == "check"
+}
+
+/// What the words ask for, if they are `check` and the name of a project.
+fn check_order(words: &[Text]) -> Option<CheckOrder<'_>>
+    ensures found { IfSome result (λ order. IsCheck words.now order) }
+    ensures only { (order : CheckParts) → IsCheck words.now order → result ≡ Some order }
+{
+    let [command, project] = words else {
+        return None;
+    };
+    let project = project.as_str();
+    if is_check(command.as_str()) && is_plain(project.as_bytes()) {
+        Some(CheckOrder { project })
+    } else {
+        None
+    }
 }
 
 /// What the words ask for, if they are `quick` and its nine words: two names, a size in pixels, an extent in
