@@ -16,7 +16,7 @@ pub type Values = Sequence<Text>;
 pub struct Feature {
     /// The number that tells it from the layer's other features.
     pub id: u32,
-    /// Where it lies; none where its cell was empty or was refused.
+    /// Where it lies; none where its cell was empty or was refused, or where an edit took it.
     pub geometry: Option<Geometry>,
     /// One text for each column of its layer.
     pub values: Values,
