@@ -22,4 +22,5 @@ pub mod Pictures
 pub mod Paintings
 pub mod ProjectFiles
 pub mod Edits
+pub mod Openings
 pub mod Laws

@@ -134,4 +134,18 @@ impl ProjectFile {
     {
         self.layers.as_slice()
     }
+
+    /// Its background, its canvases and its layers, top first. No memory.
+    pub fn into_parts(self) -> (Rgb, CanvasList, LayerList)
+        ensures background { result.0 ≡ self.background }
+        ensures canvases { result.1 ≡ self.canvases }
+        ensures layers { result.2 ≡ self.layers }
+    {
+        let ProjectFile {
+            background,
+            canvases,
+            layers,
+        } = self;
+        (background, canvases, layers)
+    }
 }
