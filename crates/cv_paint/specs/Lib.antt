@@ -1,5 +1,4 @@
 -- What the painter's calls cite, in reading order.
-pub mod Plain
 pub mod Layings
 pub mod Finish
 pub mod Masks

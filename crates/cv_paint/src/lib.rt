@@ -1,9 +1,9 @@
-//! The painter: from layers to their images, and from features and a symbol to a picture.
+//! The painter: from layers to their images.
 //!
-//! Contract: an image is that of the definitions, at every pixel, and so is a picture; the painting of a
-//! piece is given up only where its stop said yes.
-//! Definitions: `Pictures`, `Paintings` and `Texts` of `cv_model`; `Plain`, the project of one layer. Takes
-//! memory for pixels and runs; no handle.
+//! Contract: an image is that of the definitions, at every pixel; the painting of a piece is given up only
+//! where its stop said yes.
+//! Definitions: `Pictures`, `Paintings` and `Texts` of `cv_model`. Takes memory for pixels and runs; no
+//! handle.
 #![tactic(auto)]
 
 mod cells;
@@ -14,7 +14,6 @@ mod finish;
 mod hits;
 mod layings;
 mod masks;
-mod over_white;
 mod painted;
 mod sides;
 mod strokes;
@@ -22,5 +21,4 @@ mod texts;
 
 pub use centres::plain;
 pub use error::PaintError;
-pub use over_white::quick;
 pub use painted::paint;

@@ -1,25 +1,15 @@
 //! What a feature lays on a pixel.
 
-ghost use Rattle.std.specs.Prelude.{◌≡◌, ◌++◌, Some};
+ghost use Rattle.std.specs.Prelude.{◌≡◌, ◌++◌};
 ghost use Rattle.cv_model.specs.Colours.{laid_on};
 ghost use Rattle.cv_model.specs.Pens.{IsRadius};
 ghost use Rattle.cv_model.specs.Pictures.{hits_rings, hits_lines, laid_where, fill_strokes, pen_strokes};
-ghost use Rattle.cv_model.specs.Pictures.{marker_strokes, strokes, strokes_of};
+ghost use Rattle.cv_model.specs.Pictures.{marker_strokes, strokes_of};
 
 use crate::hits::{hits_lines, hits_rings, is_covered, is_marked};
 use crate::sides::half_side;
 use cv_blend::over;
-use cv_model::{Feature, Geometry, Marker, Pen, Point2, Rgba, Symbol, View};
-
-/// A pixel with the strokes of a feature on it.
-pub fn with_feature(pixel: Rgba, feature: &Feature, symbol: &Symbol, view: &View, p: Point2) -> Rgba
-    ensures { result ≡ laid_on pixel (strokes (Some symbol.now) view.now p feature.now.geometry) }
-{
-    match &feature.geometry {
-        Some(geometry) => with_strokes(pixel, geometry, symbol, view, p),
-        None => pixel,
-    }
-}
+use cv_model::{Geometry, Marker, Pen, Point2, Rgba, Symbol, View};
 
 /// A pixel with the fill, the pen and the marker of a geometry on it, in this order.
 #[tactic(auto, using(crate::proofs::LayLemmas::laid_more), unfolding(cv_model::specs::Pictures::strokes_of))]
