@@ -3,3 +3,4 @@ pub mod ReadingLemmas
 pub mod OpenedLemmas
 pub mod DataLemmas
 pub mod LimitLemmas
+pub mod CanvasLemmas

@@ -3,4 +3,5 @@ pub mod Ends
 pub mod Readings
 pub mod Rooms
 pub mod Opened
+pub mod Canvases
 pub mod Reports

@@ -8,6 +8,7 @@
 //! Takes memory for what is read and reported. No handles.
 #![tactic(auto)]
 
+mod canvas;
 mod ends;
 mod files;
 mod layer;
@@ -15,6 +16,7 @@ mod opening;
 mod reports;
 mod room;
 
+pub use canvas::{Shown, open_canvas};
 pub use ends::{DataError, End, Which};
 pub use files::fetch;
 pub use layer::{Layered, read_layer};

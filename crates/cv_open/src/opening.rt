@@ -65,7 +65,11 @@ fn project_of(alloc: Global, got: Option<Vec<u8>>) -> Result<ProjectFile, End>
 }
 
 /// Reads the project's file, once.
-fn read_project<F: Shelf>(alloc: Global, shelf: &mut F, name: &str) -> Result<ProjectFile, End>
+pub(crate) fn read_project<F: Shelf>(
+    alloc: Global,
+    shelf: &mut F,
+    name: &str,
+) -> Result<ProjectFile, End>
     ensures stands { ShelfStands (shelf_seen F.Shelf shelf.old) (shelf_seen F.Shelf shelf.new) }
     ensures read { IsReadAs (project_read name.now) result
         (shelf_seen F.Shelf shelf.old) (shelf_seen F.Shelf shelf.new) }
@@ -108,7 +112,11 @@ fn read_layers<F: Shelf>(
 
 /// Reads the layers of a project.
 #[tactic(auto, using(crate::proofs::ReadingLemmas::stands_on))]
-fn with_layers<F: Shelf>(alloc: Global, shelf: &mut F, file: ProjectFile) -> Result<Opened, End>
+pub(crate) fn with_layers<F: Shelf>(
+    alloc: Global,
+    shelf: &mut F,
+    file: ProjectFile,
+) -> Result<Opened, End>
     requires { IsInForm file }
     ensures stands { ShelfStands (shelf_seen F.Shelf shelf.old) (shelf_seen F.Shelf shelf.new) }
     ensures read { IsReadAs (layers_of file) result
