@@ -1,9 +1,9 @@
 -- What is read of a layer has no more than there is room for, and is of its source's kind.
 use Rattle.std.proofs.Common.{◌≡◌, ◌∙◌, ap, sym, subst, refl, ℕ, zero, suc, ◌+◌, ◌*◌, ◌<◌, ◌≤◌, ◌==◌, nat_lt, Bool, true, false, not}
-use Rattle.std.proofs.Common.{◌||◌, if◌then◌else◌, List, [], ◌∷◌, ◌++◌, map, length, sum_by, All, append_assoc, append-nil, Option, Some, None}
-use Rattle.std.proofs.Common.{Result, Ok, Err, arith, bytes_eq, cond}
+use Rattle.std.proofs.Common.{◌||◌, if◌then◌else◌, List, [], ◌∷◌, ◌++◌, length, sum_by, All, append_assoc, append-nil, Option, Some, None}
+use Rattle.std.proofs.Common.{Ok, arith, bytes_eq, cond}
 use Rattle.std.proofs.lemmas.Bool.Decides.{nat_tests}
-use Rattle.std.proofs.lemmas.List.{length-map, length-append}
+use Rattle.std.proofs.lemmas.List.{length-map}
 use Rattle.std.proofs.lemmas.List.Edits.{length-remove}
 use Rattle.std.proofs.lemmas.List.Elements.{All-append}
 use Rattle.std.proofs.lemmas.List.Sums.{sum_by-cons}
@@ -18,16 +18,13 @@ use Rattle.cv_model.specs.Grids.{CellGrid}
 use Rattle.cv_dtext.specs.declared.cell.Cell.{Cell}
 use Rattle.cv_dtext.specs.declared.cell.Cell.TheVariants.{Empty, Geometry, Refused}
 use Rattle.cv_dtext.specs.declared.options.TextOptions.{TextOptions}
-use Rattle.cv_dtext.specs.declared.options.TextError.{TextError}
 use Rattle.cv_dtext.specs.declared.options.TextError.TheVariants.{Uneven, NotUtf8, TooMany}
 use Rattle.cv_dtext.specs.Cell.{geometry_in, vertices_in}
 use Rattle.cv_dtext.specs.Records.{Fields, are_texts}
-use Rattle.cv_dtext.specs.Refusals.{is_past, pass, shown, shown_behind, vertices_in_all, values_in_all, features_of, IsRead}
-use Rattle.cv_dtext.specs.Table.{column_of, cell_at, others, feature_of, features_from, table_of}
+use Rattle.cv_dtext.specs.Refusals.{is_past, pass, shown, vertices_in_all, values_in_all, features_of, IsRead}
+use Rattle.cv_dtext.specs.Table.{cell_at, others, feature_of, features_from, table_of}
 use Rattle.cv_dtext.proofs.FirstLemmas.{found_exactly}
 use Rattle.cv_grid.specs.Answers.{grid_of}
-use Rattle.cv_grid.specs.Grammar.{Spells}
-use Rattle.cv_grid.specs.Layouts.{is_large, is_far}
 use Rattle.cv_grid.proofs.AnswerLemmas.{grid_spelt}
 
 -- ---- the records of a text

@@ -1,5 +1,5 @@
 -- What is read of a project passes no limit, so that it can be opened.
-use Rattle.std.proofs.Common.{◌≡◌, ◌∙◌, ap, sym, subst, refl, ℕ, suc, ◌+◌, ◌-◌, ◌*◌, min, ◌≤◌, nat_lt, Bool, true, false, ◌||◌, if◌then◌else◌, cond}
+use Rattle.std.proofs.Common.{◌≡◌, ◌∙◌, ap, sym, subst, refl, ℕ, suc, ◌+◌, ◌-◌, ◌*◌, min, ◌≤◌, nat_lt, Bool, true, false, ◌||◌, if◌then◌else◌}
 use Rattle.std.proofs.Common.{List, [], ◌∷◌, ◌++◌, map, length, sum_by, append_assoc, append-nil, Option, Some, None, Result, Ok, Err, arith}
 use Rattle.std.proofs.lemmas.Bool.Decides.{nat_tests}
 use Rattle.std.proofs.lemmas.List.{length-map}
@@ -26,7 +26,6 @@ use Rattle.cv_grid.specs.Tokens.{without_mark}
 use Rattle.cv_grid.specs.declared.error.GridError.{GridError}
 use Rattle.cv_open.specs.declared.ends.DataError.{DataError}
 use Rattle.cv_open.specs.declared.ends.DataError.TheVariants.{TooLong}
-use Rattle.cv_open.specs.declared.ends.End.{End}
 use Rattle.cv_open.specs.declared.ends.Which.{Which}
 use Rattle.cv_open.specs.declared.layer.Layered.{Layered}
 use Rattle.cv_open.specs.declared.room.Left.{Left}
