@@ -1,5 +1,5 @@
 -- What the file of a layer says where it is too long.
-use Rattle.std.proofs.Common.{◌≡◌, ◌<◌, ℕ, List, length, Option, Some, None, IsSomeAnd, Err, cond, ap}
+use Rattle.std.proofs.Common.{◌≡◌, ◌<◌, ℕ, List, length, Err, cond, ap}
 use Rattle.std.proofs.lemmas.Bool.{lt-ltb}
 use Rattle.cv_dtext.specs.Refusals.{features_of}
 use Rattle.cv_open.specs.declared.ends.DataError.TheVariants.{TooLong}

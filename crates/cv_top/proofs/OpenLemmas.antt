@@ -1,15 +1,14 @@
 -- A run that makes something of what it opened.
-use Rattle.std.proofs.Common.{◌≡◌, ℕ, ◌+◌, List, [], ◌∷◌, ◌++◌, map, length, take, Option, Some, option_map, Result, Ok, Err, IsTrue, refl, ap, sym, subst, append-nil, arith, ◌∙◌}
+use Rattle.std.proofs.Common.{◌≡◌, ℕ, ◌+◌, List, [], ◌∷◌, ◌++◌, map, length, take, Some, option_map, Ok, Err, IsTrue, refl, ap, sym, subst, append-nil, arith, ◌∙◌}
 use Rattle.std.proofs.lemmas.List.{length-append}
 use Rattle.std.specs.List.{slice_get}
 use Rattle.cv_outside.specs.Counts.{Rose}
 use Rattle.cv_outside.specs.Seen.{ShelfSeen, TraySeen, SinkSeen}
 use Rattle.cv_open.specs.declared.ends.End.{End}
 use Rattle.cv_open.specs.declared.ends.End.TheVariants.{Done, NoMemory, Usage, BadProject, BadData, ReadFault, WriteFault, Missing}
-use Rattle.cv_open.specs.declared.ends.Which.{Which}
-use Rattle.cv_open.specs.Readings.{Asked, FilesFound, Reading, Reads, only, behind, AreOf, LeadsTo, BreaksAt, IsReadAs}
+use Rattle.cv_open.specs.Readings.{Asked, FilesFound, Reading, Reads, only, LeadsTo, IsReadAs}
 use Rattle.cv_top.specs.declared.orders.Order.{Order}
-use Rattle.cv_top.specs.Outcomes.{Product, Refused, Outcome, end_of, files_of, text_of, outcome_from, IsOutcome}
+use Rattle.cv_top.specs.Outcomes.{Product, Refused, Outcome, files_of, text_of, outcome_from, IsOutcome}
 use Rattle.cv_top.specs.Runs.{HasCause, Asks, Keeps, Prints, IsAskedAt, IsRunOf, IsWritten}
 use Rattle.cv_top.proofs.RunLemmas.{more_causes, completes, asks_all}
 

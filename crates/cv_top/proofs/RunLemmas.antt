@@ -1,5 +1,5 @@
 -- How a run is put together, and what follows from its causes.
-use Rattle.std.proofs.Common.{◌≡◌, ◌⊎◌, ℕ, ◌≤◌, Bool, true, false, List, [], ◌∷◌, ◌++◌, map, Option, Some, None, IsTrue, length, refl, ap, sym, subst, inl, inr, append-nil, ◌∙◌}
+use Rattle.std.proofs.Common.{◌≡◌, ℕ, Bool, true, false, List, [], ◌∷◌, ◌++◌, map, Option, Some, None, IsTrue, length, refl, ap, sym, subst, inl, inr, append-nil, ◌∙◌}
 use Rattle.std.proofs.Math.Seq.{take-length}
 use Rattle.cv_outside.specs.declared.ends.Unread.{Unread}
 use Rattle.cv_outside.specs.declared.ends.Unread.TheVariants as unread
@@ -8,7 +8,7 @@ use Rattle.cv_outside.specs.declared.shelves.Shelf.{Ghosts as ShelfGhosts}
 use Rattle.cv_outside.specs.declared.sinks.Sink.{Ghosts as SinkGhosts}
 use Rattle.cv_outside.specs.declared.trays.Tray.{Ghosts as TrayGhosts}
 use Rattle.cv_outside.specs.Counts.{Rose}
-use Rattle.cv_outside.specs.Seen.{ShelfSeen, TraySeen, SinkSeen, shelf_seen, tray_seen, sink_seen, ShelfStands, TrayStands, SinkStands}
+use Rattle.cv_outside.specs.Seen.{ShelfSeen, TraySeen, SinkSeen, shelf_seen, tray_seen, sink_seen}
 use Rattle.cv_outside.specs.Whole.{IsUnread, UnreadAsks, UnreadCause}
 use Rattle.cv_open.specs.declared.ends.DataError.TheVariants.{TooLong}
 use Rattle.cv_open.specs.declared.ends.End.{End}

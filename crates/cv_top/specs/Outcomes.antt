@@ -6,7 +6,6 @@ use Rattle.cv_model.specs.Views.{PixelGrid}
 use Rattle.cv_open.specs.declared.ends.DataError.{DataError}
 use Rattle.cv_open.specs.declared.ends.End.{End}
 use Rattle.cv_open.specs.declared.ends.End.TheVariants.{Done, BadData, Missing}
-use Rattle.cv_open.specs.declared.ends.Which.{Which}
 use Rattle.cv_open.specs.declared.ends.Which.TheVariants.{Layer}
 use Rattle.cv_top.specs.declared.orders.Order.{Order}
 use Rattle.cv_top.specs.declared.orders.Order.TheVariants.{Quick, Check}

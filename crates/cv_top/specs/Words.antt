@@ -1,5 +1,5 @@
 -- The words of each command.
-use Rattle.std.specs.Prelude.{◌≡◌, ℕ, ◌==◌, ℤ, ◌≤◌, Bool, true, false, not, List, [], ◌∷◌, length, take, drop}
+use Rattle.std.specs.Prelude.{◌≡◌, ℕ, ℤ, ◌≤◌, true, List, [], ◌∷◌, length, take, drop}
 use Rattle.std.specs.Prelude.{Ok, codes}
 use Rattle.std.specs.Str.Parse.{AllDigits, IsNumeral, digits_value}
 use Rattle.cv_model.specs.declared.colour.Rgb.{Rgb}
@@ -8,6 +8,7 @@ use Rattle.cv_model.specs.Views.{PixelGrid}
 use Rattle.cv_geom.specs.Views.{view_of}
 use Rattle.cv_number.specs.declared.fixed.Fixed.TheVariants.{Value}
 use Rattle.cv_number.specs.Spellings.{Spells}
+use Rattle.cv_words.specs.Plain.{is_plain}
 use Rattle.cv_top.specs.declared.orders.Order.{Order}
 use Rattle.cv_top.specs.declared.orders.Order.TheVariants.{Quick, Check}
 use Rattle.cv_top.specs.Parts.{QuickParts, CheckParts}
@@ -68,15 +69,15 @@ pub record IsQuick (words : List (List ℕ)) (order : QuickParts) : Type 0 where
       ≡ codes "quick" ∷ order.csv ∷ order.out ∷ w ∷ h ∷ xmin ∷ ymin ∷ xmax ∷ ymax ∷ colour ∷ []
   pub plan : IsPlan w h xmin ymin xmax ymax colour order.view order.fill
 
--- a word that may name a file: it isn't empty, and doesn't begin with a hyphen
-abbrev pub is_plain : List ℕ → Bool
-is_plain [] = false
-is_plain (byte ∷ bytes) = not (byte == 45)
-
 -- the words are `check` and the name of a project
 pub record IsCheck (words : List (List ℕ)) (order : CheckParts) : Type 0 where
   pub spelled : words ≡ codes "check" ∷ order.project ∷ []
   pub plain : is_plain order.project ≡ true
+
+-- what is asked for is of words that `clap` reads as they are
+abbrev pub IsPlainOrder : Order → Type 0
+IsPlainOrder (Quick order) = Unit {0}
+IsPlainOrder (Check order) = is_plain order.project ≡ true
 
 -- the words are a command's form, and ask for this
 abbrev pub IsOrder : List (List ℕ) → Order → Type 0

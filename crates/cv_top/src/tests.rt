@@ -436,20 +436,35 @@ fn left_red(alloc: Global, size: &str, w: u32, h: u32, red: u32) -> Result<Vec<u
     Ok(bytes)
 }
 
+// A picture of this size and extent, whose first columns are red.
+fn is_left_red(
+    alloc: Global,
+    layer: &[u8],
+    size: (&str, u32, u32),
+    corner: &str,
+    red: u32,
+) -> Result<bool, AllocError> {
+    let (text, w, h) = size;
+    let line = format!(in alloc; "quick sq.csv sq.ppm {text} 0 0 {corner} ff0000")?;
+    let found = run_of(alloc, line.as_str(), "sq.csv", layer)?;
+    let want = left_red(alloc, text, w, h, red)?;
+    Ok(found.picture() == want.as_slice())
+}
+
 #[test]
-fn a_large_map_is_painted(rt: HostRuntime) -> Result<(), Fail> {
+fn a_large_layer_is_painted(rt: HostRuntime) -> Result<(), Fail> {
     let alloc = rt.alloc();
     let layer = large_layer(alloc)?;
-    for (size, w, h, corner, red) in [
-        ("4096 1", 4096, 1, "512 0.125", 2048),
-        ("1 4096", 1, 4096, "0.125 512", 1),
-        ("512 512", 512, 512, "512 512", 256),
-    ] {
-        let line = format!(in alloc; "quick sq.csv sq.ppm {size} 0 0 {corner} ff0000")?;
-        let found = run_of(alloc, line.as_str(), "sq.csv", layer.as_slice())?;
-        assert_eq!(rt; shown(alloc, &found.end)?.as_str(), "Done", "{size}");
-        let want = left_red(alloc, size, w, h, red)?;
-        assert!(rt; found.picture() == want.as_slice(), "{size}");
-    }
+    let bytes = layer.as_slice();
+    assert!(rt; is_left_red(alloc, bytes, ("4096 1", 4096, 1), "512 0.125", 2048)?);
+    assert!(rt; is_left_red(alloc, bytes, ("1 4096", 1, 4096), "0.125 512", 1)?);
+    Ok(())
+}
+
+#[test]
+fn a_large_picture_is_painted(rt: HostRuntime) -> Result<(), Fail> {
+    let alloc = rt.alloc();
+    let bytes = b"wkt\n\"POLYGON((0 0,256 0,256 512,0 512,0 0))\"\n".as_slice();
+    assert!(rt; is_left_red(alloc, bytes, ("512 512", 512, 512), "512 512", 256)?);
     Ok(())
 }

@@ -1,6 +1,7 @@
 //! The top call: from words and devices to an end.
 
 ghost use Rattle.cv_top.specs.Runs.{IsRun, Obeys, IsNoFault};
+ghost use Rattle.cv_top.specs.Words.{IsPlainOrder};
 
 use crate::check::check;
 use crate::orders::Order;
@@ -46,6 +47,7 @@ fn obey<F: Shelf, T: Tray, O: Sink>(
     tray: &mut T,
     out: &mut O,
 ) -> End
+    requires { IsPlainOrder order.now }
     ensures { Obeys F.Shelf T.Tray O.Sink order.now result
         shelf.old shelf.new tray.old tray.new out.old out.new }
 {

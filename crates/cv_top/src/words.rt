@@ -9,7 +9,8 @@ ghost use Rattle.cv_model.specs.Views.{PixelGrid};
 ghost use Rattle.cv_top.specs.declared.orders.Order.{Order};
 ghost use Rattle.cv_top.specs.Parts.{QuickParts, CheckParts};
 ghost use Rattle.cv_top.specs.Words.{IsCount, IsColour, IsValueOf, IsExtentOf, IsViewOf, IsQuick};
-ghost use Rattle.cv_top.specs.Words.{IsCheck, IsOrder, is_plain};
+ghost use Rattle.cv_top.specs.Words.{IsCheck, IsOrder};
+ghost use Rattle.cv_words.specs.Plain.{is_plain};
 
 use crate::orders::{CheckOrder, Order, QuickOrder};
 use cv_decimal::Fixed;

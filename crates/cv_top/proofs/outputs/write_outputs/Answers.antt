@@ -1,4 +1,4 @@
-use Rattle.std.proofs.Common.{refl, arith, rules}
+use Rattle.std.proofs.Common.{refl, arith}
 use Rattle.cv_outside.proofs.SeenLemmas.{sink_stays}
 use Rattle.cv_outside.specs.Seen.{sink_seen}
 use Rattle.cv_top.proofs.outputs.write_outputs.Goals as goal

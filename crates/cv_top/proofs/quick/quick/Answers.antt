@@ -1,4 +1,4 @@
-use Rattle.std.proofs.Common.{Some, refl, ap, sym, subst, arith, ◌∙◌}
+use Rattle.std.proofs.Common.{Some, refl, ap, sym, subst, ◌∙◌}
 use Rattle.cv_outside.specs.declared.ends.Unread.{Unread}
 use Rattle.cv_outside.proofs.SeenLemmas.{tray_stays, sink_stays}
 use Rattle.cv_outside.specs.Seen.{shelf_seen, tray_seen, sink_seen}

@@ -1,8 +1,6 @@
-use Rattle.std.proofs.Common.{◌≡◌, ℕ, List, length, codes, ap, sym, subst, ◌∙◌, arith, rules}
+use Rattle.std.proofs.Common.{◌≡◌, ℕ, List, length, codes, sym, subst, ◌∙◌, arith, rules}
 use Rattle.std.proofs.lemmas.Option.{none-some, same_Some}
-use Rattle.cv_model.specs.declared.colour.Rgb.{Rgb}
 use Rattle.cv_model.specs.Positions.{Rectangle}
-use Rattle.cv_model.specs.Views.{PixelGrid}
 use Rattle.cv_top.specs.Words.{IsColour, IsViewOf}
 use Rattle.cv_top.proofs.WordLemmas.{ten_items, held, is_ordered, same_order}
 use Rattle.cv_top.proofs.words.quick_order.Goals as goal

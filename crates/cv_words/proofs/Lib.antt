@@ -1,0 +1,3 @@
+-- What `clap` makes of plain words.
+pub mod PlainLemmas
+pub mod CheckLemmas
