@@ -29,7 +29,7 @@ use Rattle.cv_open.specs.declared.ends.DataError.TheVariants.{TooLong}
 use Rattle.cv_open.specs.declared.ends.Which.{Which}
 use Rattle.cv_open.specs.declared.layer.Layered.{Layered}
 use Rattle.cv_open.specs.declared.room.Left.{Left}
-use Rattle.cv_open.specs.Opened.{as_text, as_grid, data_of, layer_of, layered, name_of, layers_read}
+use Rattle.cv_open.specs.Opened.{as_text, as_grid, data_of, layer_of, layered, name_of, layer_read, layers_read}
 use Rattle.cv_open.specs.Readings.{FilesFound, Reading, Reads, LeadsTo, only, present, going_on}
 use Rattle.cv_open.specs.Rooms.{all_left, most_bytes, most_cells, left_behind}
 use Rattle.cv_open.proofs.DataLemmas.{text_within, grid_within}
@@ -306,3 +306,37 @@ pub read_can_open : (file : FileParts) (all : List LayerData) (old new : ShelfSe
 read_can_open file all old new form leads =
     let f = leads.gives (files_of new) (λ told n name. refl) in
     can_open file all form (gave file.layers 0 all_left [] all f.0 none_within (ap (λ (r : Reading (List LayerData)). r.given) f.2))
+
+-- ---- one layer alone
+
+given_is : (place n : ℕ) (left : Left) (r : Result LayerData DataError) (read : Layered)
+    → layered place left n r ≡ Ok read → r ≡ Ok read.contents
+given_is place n left (Err e) read h = absurd cc
+given_is place n left (Ok d) read h =
+    let same : record { contents = d; left = left_behind left n d } ≡ read = cc in
+    ap (λ (l : Layered). Ok l.contents) same
+
+file_fits : (file : Option (List ℕ)) (from : Source) (read : Layered) (later : FilesFound)
+    → (going_on (λ bytes. only (layered 0 all_left (length bytes) (layer_of from all_left bytes)))
+    (present (Which.Layer 0) file) later).given ≡ Ok read → Fits from all_left read.contents
+file_fits None from read later h = absurd cc
+file_fits (Some bytes) from read later h =
+    layer_fits from all_left bytes read.contents
+    (given_is 0 (length bytes) all_left (layer_of from all_left bytes) read h)
+
+-- what a call read of one layer can be opened with a file in form that has one layer, of that source's kind
+pub one_can_open : (file : FileParts) (layer : LayerFile) (from : Source) (read : Layered) (old new : ShelfSeen)
+    → IsInForm file → file.layers ≡ layer ∷ [] → is_grid_source from ≡ is_grid_source layer.source
+    → LeadsTo (layer_read 0 all_left from) (only (Ok read)) old new → CanOpen file (read.contents ∷ [])
+one_can_open file layer from read old new form one kind leads =
+    let f = leads.gives (files_of new) (λ told n name. refl) in
+    let fits =
+    file_fits (f.0 0 (name_of from)) from read (λ n. f.0 (suc n)) (ap (λ (r : Reading Layered). r.given) f.2) in
+    can_open file (read.contents ∷ []) form
+    (subst (Gave [] (read.contents ∷ [])) (sym one) (record {
+      rest = read.contents ∷ [];
+      all_are = refl;
+      kinds = ap (λ b. b ∷ []) (fits.kind ∙ kind);
+      left = left_behind all_left 0 read.contents;
+      within = within_more from all_left 0 [] read.contents none_within fits;
+    }))
