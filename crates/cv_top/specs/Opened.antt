@@ -1,44 +1,46 @@
--- What the file of a layer says: the features of a delimited text, or why its bytes are refused; and the
--- picture of these features.
-use Rattle.std.specs.Prelude.{ℕ, nat_lt, if◌then◌else◌, List, length, codes, Result, Ok, Err}
+-- What `quick` reads and opens: one text layer with an opaque fill, over white.
+use Rattle.std.specs.Prelude.{ℕ, List, [], ◌∷◌, codes, true, None}
+use Rattle.cv_model.specs.declared.blend.Blend.TheVariants.{Normal}
 use Rattle.cv_model.specs.declared.colour.Rgb.{Rgb}
 use Rattle.cv_model.specs.declared.delimiter.Delimiter.TheVariants.{Comma}
-use Rattle.cv_model.specs.Features.{FeatureTable}
-use Rattle.cv_model.specs.declared.limits.TheConstants.{MOST_BYTES}
-use Rattle.cv_model.specs.Views.{PixelGrid}
+use Rattle.cv_model.specs.declared.layer.LayerData.{LayerData}
+use Rattle.cv_model.specs.declared.project.LayerFile.{LayerFile}
+use Rattle.cv_model.specs.declared.project.Source.{Source}
+use Rattle.cv_model.specs.declared.project.Source.TheVariants.{Text}
+use Rattle.cv_model.specs.declared.style.Style.TheVariants.{Single}
 use Rattle.cv_model.specs.Layers.{Project}
-use Rattle.cv_model.specs.Pictures.{picture}
-use Rattle.cv_model.specs.Rasters.{ppm_of}
+use Rattle.cv_model.specs.Openings.{opening_of}
+use Rattle.cv_model.specs.ProjectFiles.{FileParts}
+use Rattle.cv_model.specs.Scales.{all_scales}
 use Rattle.cv_model.specs.Symbols.{filled}
-use Rattle.cv_dtext.specs.declared.options.TextOptions.{TextOptions}
-use Rattle.cv_dtext.specs.declared.options.TextError.{TextError}
-use Rattle.cv_paint.specs.Plain.{features_project}
-use Rattle.cv_dtext.specs.Refusals.{features_of}
-use Rattle.cv_open.specs.declared.ends.DataError.{DataError}
-use Rattle.cv_open.specs.declared.ends.DataError.TheVariants.{Text, TooLong}
 
--- how `quick` reads a delimited text: between commas, with the geometry under `wkt`, and how much at most
-abbrev pub quick_options : TextOptions
-quick_options = record {
-  delimiter = Comma;
-  geometry = codes "wkt";
-  room = record { features = 1000000; vertices = 4000000; values = 16000000 };
+-- the source of its layer: a delimited text with commas, whose column `wkt` has the geometries
+abbrev pub quick_source : List ℕ → Source
+quick_source csv = Text csv Comma (codes "wkt")
+
+-- its layer: visible and opaque, in normal mode, with this fill alone
+abbrev pub quick_layer : Rgb → LayerFile
+quick_layer fill = record {
+  id = 1;
+  name = [];
+  source = quick_source [];
+  visible = true;
+  opacity = 255;
+  blend = Normal;
+  mask = None;
+  join = None;
+  style = Single (filled fill);
+  scales = all_scales;
 }
 
--- what the reader of delimited text answers, with its error as that of a layer
-abbrev pub as_layer : Result FeatureTable TextError → Result FeatureTable DataError
-as_layer (Ok table) = Ok table
-as_layer (Err e) = Err (Text e)
+-- its project: that layer over white, and no canvas
+abbrev pub quick_file : Rgb → FileParts
+quick_file fill = record {
+  background = record { r = 255; g = 255; b = 255 };
+  canvases = [];
+  layers = quick_layer fill ∷ [];
+}
 
--- the features that a file's bytes spell, or why the bytes are refused
-unfoldable pub layer_of : List ℕ → Result FeatureTable DataError
-layer_of bytes =
-    if nat_lt MOST_BYTES (length bytes) then Err TooLong else as_layer (features_of quick_options bytes)
-
--- the project of `quick`: one layer of these features with an opaque fill, over white
-abbrev pub quick_project : FeatureTable → Rgb → Project
-quick_project table fill = features_project table (filled fill)
-
--- the bytes of the picture of these features
-abbrev pub picture_bytes : FeatureTable → Rgb → PixelGrid → List ℕ
-picture_bytes table fill view = ppm_of (picture (quick_project table fill) view)
+-- the project that it opens with the data of its layer
+abbrev pub quick_project : Rgb → LayerData → Project
+quick_project fill contents = (opening_of (quick_file fill) (contents ∷ [])).project

@@ -1,20 +1,25 @@
 -- What a command gives where no device fails: what it asks, and then a refusal, or files and a text.
-use Rattle.std.specs.Prelude.{◌≡◌, ℕ, List, [], ◌∷◌, ◌++◌, codes, Option, Some, None, Result, Ok, Err}
+use Rattle.std.specs.Prelude.{◌≡◌, ℕ, List, [], ◌∷◌, ◌++◌, codes, Result, Ok, Err}
 use Rattle.std.specs.Fmt.{decimal}
-use Rattle.cv_model.specs.Features.{FeatureTable}
+use Rattle.cv_model.specs.Layers.{Project}
+use Rattle.cv_model.specs.Pictures.{picture}
+use Rattle.cv_model.specs.Rasters.{ppm_of}
 use Rattle.cv_model.specs.Views.{PixelGrid}
-use Rattle.cv_open.specs.declared.ends.DataError.{DataError}
 use Rattle.cv_open.specs.declared.ends.End.{End}
-use Rattle.cv_open.specs.declared.ends.End.TheVariants.{Done, BadData, Missing}
+use Rattle.cv_open.specs.declared.ends.End.TheVariants.{Done}
 use Rattle.cv_open.specs.declared.ends.Which.TheVariants.{Layer}
 use Rattle.cv_top.specs.declared.orders.Order.{Order}
-use Rattle.cv_top.specs.declared.orders.Order.TheVariants.{Quick, Check}
+use Rattle.cv_top.specs.declared.orders.Order.TheVariants.{Quick, Check, Paint}
 use Rattle.cv_open.specs.declared.opening.Opened.{Opened}
-use Rattle.cv_open.specs.Opened.{opened}
+use Rattle.cv_open.specs.declared.canvas.Shown.{Shown}
+use Rattle.cv_open.specs.declared.layer.Layered.{Layered}
+use Rattle.cv_open.specs.Canvases.{shown}
+use Rattle.cv_open.specs.Opened.{layer_read, opened, opening_in}
 use Rattle.cv_open.specs.Readings.{Asked, FilesFound, Reading}
 use Rattle.cv_open.specs.Reports.{report_of}
-use Rattle.cv_top.specs.Parts.{QuickParts}
-use Rattle.cv_top.specs.Opened.{layer_of, picture_bytes}
+use Rattle.cv_open.specs.Rooms.{all_left}
+use Rattle.cv_top.specs.Parts.{QuickParts, PaintParts}
+use Rattle.cv_top.specs.Opened.{quick_source, quick_project}
 
 -- a file that is put into the tray
 pub record Written : Type 0 where
@@ -63,20 +68,17 @@ image_line view = codes "image " ++ (decimal view.w ++ ((32 ∷ []) ++ (decimal 
 abbrev pub one_made : (name bytes text : List ℕ) → Product
 one_made name bytes text = Made (record { name = name; bytes = bytes } ∷ []) text
 
--- `quick` makes the picture of what its layer's bytes spell, or refuses them
-abbrev pub quick_layer : QuickParts → Result FeatureTable DataError → Product
-quick_layer order (Err error) = Refused (BadData 0 error)
-quick_layer order (Ok table) =
-    one_made order.out (picture_bytes table order.fill order.view) (image_line order.view)
+-- the picture of a project at a view, under this name, and its size
+abbrev pub picture_made : (name : List ℕ) → Project → PixelGrid → Product
+picture_made name project view = one_made name (ppm_of (picture project view)) (image_line view)
 
--- `quick` over the file of its layer, if there is one
-abbrev pub quick_product : QuickParts → Option (List ℕ) → Product
-quick_product order None = Refused (Missing (Layer 0))
-quick_product order (Some bytes) = quick_layer order (layer_of bytes)
+-- `quick` makes the picture of the project of its one layer
+abbrev pub quick_made : QuickParts → Layered → Product
+quick_made order read = picture_made order.out (quick_project order.fill read.contents) order.view
 
--- `quick` asks the one name
-abbrev pub quick_asks : QuickParts → List Asked
-quick_asks order = record { which = Layer 0; name = order.csv } ∷ []
+-- `paint` makes that of the project that was opened, at the view of its canvas
+abbrev pub painted : PaintParts → Shown → Product
+painted order shown = picture_made order.out (opening_in shown.opened).project shown.view
 
 -- `check` prints the report on what was opened
 abbrev pub checked : Opened → Product
@@ -85,5 +87,6 @@ checked opened = Made [] (report_of opened)
 -- what an order gives over the files that its reads find
 abbrev pub IsOutcome : Order → FilesFound → Outcome → Type 0
 IsOutcome (Quick order) reads o =
-    o ≡ record { asked = quick_asks order; product = quick_product order (reads 0 order.csv) }
+    o ≡ outcome_from (quick_made order) (layer_read 0 all_left (quick_source order.csv) reads)
 IsOutcome (Check order) reads o = o ≡ outcome_from checked (opened order.project reads)
+IsOutcome (Paint order) reads o = o ≡ outcome_from (painted order) (shown order.project order.canvas reads)

@@ -13,3 +13,11 @@ pub record QuickParts : Type 0 where
 -- what the words of `check` ask for: the project to open
 pub record CheckParts : Type 0 where
   pub project : List ℕ
+
+-- what the words of `paint` ask for: the project to open, the canvas to paint, counted from 0, as it is
+-- written and as a number, and the picture to write
+pub record PaintParts : Type 0 where
+  pub project : List ℕ
+  pub number : List ℕ
+  pub canvas : ℕ
+  pub out : List ℕ

@@ -1,6 +1,7 @@
 -- The words of each command.
 use Rattle.std.specs.Prelude.{◌≡◌, ℕ, ℤ, ◌≤◌, true, List, [], ◌∷◌, length, take, drop}
 use Rattle.std.specs.Prelude.{Ok, codes}
+use Rattle.std.specs.List.{list_all}
 use Rattle.std.specs.Str.Parse.{AllDigits, IsNumeral, digits_value}
 use Rattle.cv_model.specs.declared.colour.Rgb.{Rgb}
 use Rattle.cv_model.specs.Positions.{Rectangle}
@@ -10,8 +11,8 @@ use Rattle.cv_number.specs.declared.fixed.Fixed.TheVariants.{Value}
 use Rattle.cv_number.specs.Spellings.{Spells}
 use Rattle.cv_words.specs.Plain.{is_plain}
 use Rattle.cv_top.specs.declared.orders.Order.{Order}
-use Rattle.cv_top.specs.declared.orders.Order.TheVariants.{Quick, Check}
-use Rattle.cv_top.specs.Parts.{QuickParts, CheckParts}
+use Rattle.cv_top.specs.declared.orders.Order.TheVariants.{Quick, Check, Paint}
+use Rattle.cv_top.specs.Parts.{QuickParts, CheckParts, PaintParts}
 
 -- one to ten digits of this value
 pub record IsCount (word : List ℕ) (n : ℕ) : Type 0 where
@@ -74,15 +75,28 @@ pub record IsCheck (words : List (List ℕ)) (order : CheckParts) : Type 0 where
   pub spelled : words ≡ codes "check" ∷ order.project ∷ []
   pub plain : is_plain order.project ≡ true
 
+-- the words behind `paint`
+abbrev pub paint_words : PaintParts → List (List ℕ)
+paint_words order = order.project ∷ order.number ∷ order.out ∷ []
+
+-- the words are `paint`, the name of a project, the number of a canvas and the name of a picture
+pub record IsPaint (words : List (List ℕ)) (order : PaintParts) : Type 0 where
+  pub spelled : words ≡ codes "paint" ∷ paint_words order
+  pub plain : list_all is_plain (paint_words order) ≡ true
+  pub count : IsCount order.number order.canvas
+  pub small : order.canvas ≤ 4294967295
+
 -- what is asked for is of words that `clap` reads as they are
 abbrev pub IsPlainOrder : Order → Type 0
 IsPlainOrder (Quick order) = Unit {0}
 IsPlainOrder (Check order) = is_plain order.project ≡ true
+IsPlainOrder (Paint order) = list_all is_plain (paint_words order) ≡ true
 
 -- the words are a command's form, and ask for this
 abbrev pub IsOrder : List (List ℕ) → Order → Type 0
 IsOrder words (Quick order) = IsQuick words order
 IsOrder words (Check order) = IsCheck words order
+IsOrder words (Paint order) = IsPaint words order
 
 -- the words are no command's form
 abbrev pub IsNoForm : List (List ℕ) → Type 0

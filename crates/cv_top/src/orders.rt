@@ -10,6 +10,8 @@ pub enum Order<'a> {
     Quick(QuickOrder<'a>),
     /// A project is opened, and a report on it is printed.
     Check(CheckOrder<'a>),
+    /// A canvas of a project is painted.
+    Paint(PaintOrder<'a>),
 }
 
 /// What the words of `quick` ask for.
@@ -46,4 +48,30 @@ impl<'a> Model for CheckOrder<'a> {
     ghost Value = { CheckParts };
 
     ghost view = { λ q. record { project = q.project.now } };
+}
+
+/// What the words of `paint` ask for.
+#[derive(Debug, Drop)]
+pub struct PaintOrder<'a> {
+    /// The name of the project.
+    pub project: &'a str,
+    /// The canvas, as it is written.
+    pub number: &'a str,
+    /// Its number, counted from 0.
+    pub canvas: u32,
+    /// The name of the picture.
+    pub out: &'a str,
+}
+
+impl<'a> Model for PaintOrder<'a> {
+    ghost use Rattle.cv_top.specs.Parts.{PaintParts};
+
+    ghost Value = { PaintParts };
+
+    ghost view = { λ q. record {
+        project = q.project.now;
+        number = q.number.now;
+        canvas = q.canvas;
+        out = q.out.now;
+    } };
 }

@@ -5,6 +5,7 @@ ghost use Rattle.cv_top.specs.Words.{IsPlainOrder};
 
 use crate::check::check;
 use crate::orders::Order;
+use crate::paint::paint;
 use crate::quick::quick;
 use crate::words::order_of;
 use cv_model::Text;
@@ -23,6 +24,10 @@ use std::thread::Threads;
 /// `check <project>` opens the project, with the files of all its layers, and prints for each layer its counts
 /// and the notes on its refused geometries, then the counts of the project, and then the project as it is
 /// written.
+///
+/// `paint <project> <canvas> <out>` opens the project in the same way, paints what the canvas of that number,
+/// counted from 0, shows at first, writes the picture as a pixmap, and prints `image w h`. A canvas that isn't
+/// there or has no extent is refused before any layer is read.
 pub fn run_once<F: Shelf, T: Tray, O: Sink>(
     alloc: Global,
     words: &[Text],
@@ -54,6 +59,7 @@ fn obey<F: Shelf, T: Tray, O: Sink>(
     match order {
         Order::Quick(order) => quick(alloc, order, shelf, tray, out),
         Order::Check(order) => check(alloc, order, shelf, out),
+        Order::Paint(order) => paint(alloc, order, shelf, tray, out),
     }
 }
 

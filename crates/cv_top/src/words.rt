@@ -1,18 +1,19 @@
 //! The words of a command, read by hand.
 
 ghost use Rattle.std.specs.Prelude.{◌≡◌, ℕ, ◌≤◌, ◌↔◌, ◌∷◌, [], IfSome, IsTrue, length, codes, ℤ};
+ghost use Rattle.std.specs.List.{list_all};
 ghost use Rattle.std.specs.Option.{SomeIff};
 ghost use Rattle.std.specs.Str.Parse.{AllDigits, digits_value};
 ghost use Rattle.cv_model.specs.declared.colour.Rgb.{Rgb};
 ghost use Rattle.cv_model.specs.Positions.{Rectangle, IsCoordinate};
 ghost use Rattle.cv_model.specs.Views.{PixelGrid};
 ghost use Rattle.cv_top.specs.declared.orders.Order.{Order};
-ghost use Rattle.cv_top.specs.Parts.{QuickParts, CheckParts};
+ghost use Rattle.cv_top.specs.Parts.{QuickParts, CheckParts, PaintParts};
 ghost use Rattle.cv_top.specs.Words.{IsCount, IsColour, IsValueOf, IsExtentOf, IsViewOf, IsQuick};
-ghost use Rattle.cv_top.specs.Words.{IsCheck, IsOrder};
+ghost use Rattle.cv_top.specs.Words.{IsCheck, IsPaint, IsOrder};
 ghost use Rattle.cv_words.specs.Plain.{is_plain};
 
-use crate::orders::{CheckOrder, Order, QuickOrder};
+use crate::orders::{CheckOrder, Order, PaintOrder, QuickOrder};
 use cv_decimal::Fixed;
 use cv_geom::view_of;
 use cv_model::{Extent, Rgb, Text, View};
@@ -22,8 +23,11 @@ pub fn order_of(words: &[Text]) -> Option<Order<'_>>
     ensures found { IfSome result (λ order. IsOrder words.now order) }
     ensures only { (order : Order) → IsOrder words.now order → result ≡ Some order }
 {
-    match check_order(words) {
-        Some(order) => Some(Order::Check(order)),
+    if let Some(order) = check_order(words) {
+        return Some(Order::Check(order));
+    }
+    match paint_order(words) {
+        Some(order) => Some(Order::Paint(order)),
         None => Some(Order::Quick(quick_order(words)?)),
     }
 }
@@ -59,6 +63,42 @@ fn check_order(words: &[Text]) -> Option<CheckOrder<'_>>
     } else {
         None
     }
+}
+
+/// Whether a word is the command `paint`.
+fn is_paint(word: &str) -> bool
+    ensures { IsTrue result ↔ (word.now ≡ codes "paint") }
+{
+    word == "paint"
+}
+
+/// Whether three words may name files.
+fn are_plain(project: &str, number: &str, out: &str) -> bool
+    ensures { result ≡ list_all is_plain (project.now ∷ number.now ∷ out.now ∷ []) }
+{
+    is_plain(project.as_bytes()) && is_plain(number.as_bytes()) && is_plain(out.as_bytes())
+}
+
+/// What the words ask for, if they are `paint`, the name of a project, the number of a canvas and the name of a
+/// picture.
+fn paint_order(words: &[Text]) -> Option<PaintOrder<'_>>
+    ensures found { IfSome result (λ order. IsPaint words.now order) }
+    ensures only { (order : PaintParts) → IsPaint words.now order → result ≡ Some order }
+{
+    let [command, project, number, out] = words else {
+        return None;
+    };
+    let (project, number, out) = (project.as_str(), number.as_str(), out.as_str());
+    if !is_paint(command.as_str()) || !are_plain(project, number, out) {
+        return None;
+    }
+    let canvas = whole(number)?;
+    Some(PaintOrder {
+        project,
+        number,
+        canvas,
+        out,
+    })
 }
 
 /// What the words ask for, if they are `quick` and its nine words: two names, a size in pixels, an extent in
@@ -145,15 +185,15 @@ fn sized(w: &str, h: &str, extent: Extent) -> Option<View>
     ensures found { IfSome result (λ v. IsViewOf w.now h.now extent v) }
     ensures only { (v : PixelGrid) → IsViewOf w.now h.now extent v → result ≡ Some v }
 {
-    let w = side(w)?;
-    let h = side(h)?;
+    let w = whole(w)?;
+    let h = whole(h)?;
     view_of(extent, w, h).ok()
 }
 
-/// One to ten digits as the side of a view. One that is too large for any view is none.
-fn side(word: &str) -> Option<u32>
+/// One to ten digits as a number of 32 bits. One that is too large is none.
+fn whole(word: &str) -> Option<u32>
     ensures found { IfSome result (λ n. IsCount word.now n) }
-    ensures only { (n : ℕ) → n ≤ 4096 → IsCount word.now n → result ≡ Some n }
+    ensures only { (n : ℕ) → n ≤ 4294967295 → IsCount word.now n → result ≡ Some n }
 {
     u32::try_from(count(word)?).ok()
 }

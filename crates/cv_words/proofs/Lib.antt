@@ -1,3 +1,4 @@
 -- What `clap` makes of plain words.
 pub mod PlainLemmas
 pub mod CheckLemmas
+pub mod PaintLemmas

@@ -7,8 +7,10 @@
 #![tactic(auto)]
 
 mod check;
+mod paint;
 
 pub use check::check_words;
+pub use paint::{PaintWords, paint_words};
 
 #[cfg(test)]
 mod tests;

@@ -9,3 +9,13 @@ fn a_word_is_the_project(rt: HostRuntime) -> Result<(), Fail> {
     assert_eq!(rt; project, "p.json");
     Ok(())
 }
+
+#[test]
+fn three_words_are_what_is_painted(rt: HostRuntime) -> Result<(), Fail> {
+    let words = ["p.json", "0", "./-x"];
+    let read = paint_words(rt.alloc(), words.as_slice())?;
+    assert_eq!(rt; read.project, "p.json");
+    assert_eq!(rt; read.canvas, "0");
+    assert_eq!(rt; read.out, "./-x");
+    Ok(())
+}
