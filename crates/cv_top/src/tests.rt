@@ -393,18 +393,18 @@ impl Shelf for Endless {
 }
 
 #[test]
-fn a_file_past_the_limit_is_bad_data(rt: HostRuntime) -> Result<(), Fail> {
+fn a_project_past_the_limit_is_refused(rt: HostRuntime) -> Result<(), Fail> {
     let alloc = rt.alloc();
     let mut tray = SureTray::new(alloc, one_file(alloc, "sq.ppm", b"old")?);
     let mut out = SureSink::new(Vec::new(alloc));
-    let end = play(alloc, FOUR, &mut Endless, &mut tray, &mut out);
-    assert_eq!(rt; shown(alloc, &end)?.as_str(), "BadData(0, TooLong)");
+    let end = play(alloc, "check p.json", &mut Endless, &mut tray, &mut out);
+    assert_eq!(rt; shown(alloc, &end)?.as_str(), "BadProject(Limit(Text { text: \"file\" }))");
     assert_eq!(rt; tray.file("sq.ppm"), Some(b"old".as_slice()));
     Ok(())
 }
 
 // 1,000 records: the first has a polygon over the left half and an attribute of 100,000 bytes, the second
-// a geometry of 100,000 bytes without an area, and the others a point.
+// a geometry of 12,000 bytes without an area, and the others a point.
 fn large_layer(alloc: Global) -> Result<Vec<u8>, AllocError> {
     let mut bytes = Vec::from_slice(
         alloc,
@@ -414,7 +414,7 @@ fn large_layer(alloc: Global) -> Result<Vec<u8>, AllocError> {
         bytes.push(b'x')?;
     }
     bytes.extend_from_slice(b"\n\"MULTIPOINT(300 0")?;
-    for _ in 0..25_000 {
+    for _ in 0..3_000 {
         bytes.extend_from_slice(b",7 7")?;
     }
     bytes.extend_from_slice(b")\",second\n")?;
