@@ -9,6 +9,7 @@ mod frames;
 mod input;
 pub mod laws;
 mod layers;
+mod opening;
 mod row;
 mod store;
 mod tally;

@@ -9,7 +9,7 @@ use Rattle.cv_open.specs.declared.ends.End.TheVariants.{Done, NoMemory, Usage, B
 use Rattle.cv_open.specs.Readings.{Asked, FilesFound, Reading, Reads, only, LeadsTo, IsReadAs}
 use Rattle.cv_top.specs.declared.orders.Order.{Order}
 use Rattle.cv_top.specs.Outcomes.{Product, Refused, Outcome, files_of, text_of, outcome_from, IsOutcome}
-use Rattle.cv_top.specs.Runs.{HasCause, Asks, Keeps, Prints, IsAskedAt, IsRunOf, IsWritten}
+use Rattle.cv_top.specs.Runs.{HasCause, Asks, Keeps, Prints, IsAskedAt, IsRunOf, IsWritten, Untouched}
 use Rattle.cv_top.proofs.RunLemmas.{more_causes, completes, asks_all}
 
 -- the names in front, and what stands behind them
@@ -132,3 +132,15 @@ module _ {X : Type 0} (order : Order) (reads : Reads X) (make : X → Product) (
   stopped_run Done r = absurd r
   stopped_run Usage r = absurd r
   stopped_run (WriteFault which) r = absurd r
+
+-- reads that gave no value leave tray and sink untouched
+pub stopped_untouched : {X : Type 0} (all : Reads X) (end : End) (old new : ShelfSeen) (tray out : Type 0)
+    → IsReadAs all (Err end) old new → tray → out → Untouched end ⊥ tray out
+stopped_untouched all Done old new tray out r t o = absurd r
+stopped_untouched all NoMemory old new tray out r t o = tt
+stopped_untouched all Usage old new tray out r t o = absurd r
+stopped_untouched all (BadProject error) old new tray out r t o = (t, o)
+stopped_untouched all (BadData place error) old new tray out r t o = (t, o)
+stopped_untouched all (ReadFault which) old new tray out r t o = (t, o)
+stopped_untouched all (Missing which) old new tray out r t o = (t, o)
+stopped_untouched all (WriteFault which) old new tray out r t o = absurd r

@@ -1,29 +1,20 @@
 -- How a run is put together, and what follows from its causes.
 use Rattle.std.proofs.Common.{◌≡◌, ℕ, Bool, true, false, List, [], ◌∷◌, ◌++◌, map, Option, Some, None, IsTrue, length, refl, ap, sym, subst, inl, inr, append-nil, ◌∙◌}
 use Rattle.std.proofs.Math.Seq.{take-length}
-use Rattle.cv_outside.specs.declared.ends.Unread.{Unread}
-use Rattle.cv_outside.specs.declared.ends.Unread.TheVariants as unread
 use Rattle.std.proofs.lemmas.Option.{same_Some}
 use Rattle.cv_outside.specs.declared.shelves.Shelf.{Ghosts as ShelfGhosts}
 use Rattle.cv_outside.specs.declared.sinks.Sink.{Ghosts as SinkGhosts}
 use Rattle.cv_outside.specs.declared.trays.Tray.{Ghosts as TrayGhosts}
 use Rattle.cv_outside.specs.Counts.{Rose}
 use Rattle.cv_outside.specs.Seen.{ShelfSeen, TraySeen, SinkSeen, shelf_seen, tray_seen, sink_seen}
-use Rattle.cv_outside.specs.Whole.{IsUnread, UnreadAsks, UnreadCause}
-use Rattle.cv_open.specs.declared.ends.DataError.TheVariants.{TooLong}
 use Rattle.cv_open.specs.declared.ends.End.{End}
 use Rattle.cv_open.specs.declared.ends.End.TheVariants.{Done, NoMemory, Usage, BadProject, BadData, ReadFault, WriteFault, Missing}
 use Rattle.cv_open.specs.declared.ends.Which.{Which}
 use Rattle.cv_open.specs.declared.ends.Which.TheVariants.{Project, Layer, Output, Text}
 use Rattle.cv_top.specs.declared.orders.Order.{Order}
-use Rattle.cv_top.specs.declared.orders.Order.TheVariants.{Quick}
 use Rattle.cv_top.specs.Words.{IsOrder}
-use Rattle.cv_model.specs.declared.limits.TheConstants.{MOST_BYTES}
-use Rattle.cv_top.specs.Opened.{layer_of}
-use Rattle.cv_top.specs.Outcomes.{Product, Outcome, end_of, files_of, text_of, quick_asks, quick_layer, quick_product}
-use Rattle.cv_open.specs.Readings.{Asked, FilesFound}
-use Rattle.cv_top.specs.Parts.{QuickParts}
-use Rattle.cv_top.proofs.LayerLemmas.{long_is_refused}
+use Rattle.cv_top.specs.Outcomes.{Product, Outcome, end_of, files_of, text_of}
+use Rattle.cv_open.specs.Readings.{Asked}
 use Rattle.cv_top.specs.Runs.{HasCause, Asks, Keeps, Prints, IsComplete, IsAskedAt, Untouched, Obeys, IsRun, IsRunOf, IsWritten, IsNoFault}
 
 -- a cause stays one where more is a cause
@@ -61,36 +52,6 @@ pub not_usage : (end : End) (p : Product) (read : Which → Type 0) (miss write 
     → HasCause end p read miss write print → end ≡ Usage → ⊥
 not_usage end p read miss write print h is = subst (λ (e : End). HasCause e p read miss write print) is h
 
--- files that every read finds so: the shelf's own, where it tells
-pub found : (tells : Bool) (files : List ℕ → Option (List ℕ)) (name : List ℕ) (file : Option (List ℕ))
-    → (IsTrue tells → file ≡ files name)
-    → (reads : FilesFound) × (IsTrue tells → (n : ℕ) (q : List ℕ) → reads n q ≡ files q) × (reads 0 name ≡ file)
-found true files name file same = (λ _. files, λ _ _ _. refl, sym (same refl))
-found false files name file same = (λ _ _. file, λ t. absurd (cc), refl)
-
--- a run of `quick` over the file that its read saw
-pub quick_run : (order : QuickParts) (end : End) (shelf shelf' : ShelfSeen) (tray tray' : TraySeen) (out out' : SinkSeen) (file : Option (List ℕ))
-    → (IsTrue shelf.tells → file ≡ shelf.files order.csv)
-    → HasCause end (quick_product order file) (λ which. (n : ℕ) × IsAskedAt n which (quick_asks order) × Rose shelf.faults shelf'.faults)
-    (Rose shelf.misses shelf'.misses) (Rose tray.faults tray'.faults) (Rose out.faults out'.faults)
-    → (IsTrue shelf.tells → Asks end (quick_asks order) shelf.asked shelf'.asked)
-    → (IsTrue tray.tells → Keeps end (files_of (quick_product order file)) tray.files tray'.files)
-    → (IsTrue out.tells → Prints end (text_of (quick_product order file)) out.taken out'.taken)
-    → IsRunOf (Quick order) end shelf shelf' tray tray' out out'
-quick_run order end shelf shelf' tray tray' out out' file same cause names outputs text =
-    let seen = found shelf.tells shelf.files order.csv file same in
-    let outcome : Option (List ℕ) → Outcome = λ f. record { asked = quick_asks order; product = quick_product order f } in record {
-      reads = seen.0;
-      told = seen.1;
-      outcome = outcome file;
-      gives = ap outcome (sym seen.2);
-      cause = cause;
-      names = names;
-      outputs = outputs;
-      text = text;
-      complete = completes end (quick_product order file) _ _ _ _ _ cause (λ which r. r.2);
-    }
-
 -- all names are asked where no read failed
 pub asks_all : (end : End) (p : Product) (miss write print : Type 0) (asked : List Asked) (old new : List (List ℕ))
     → HasCause end p (λ _. ⊥) miss write print → new ≡ old ++ map (λ a. a.name) asked → Asks end asked old new
@@ -102,42 +63,6 @@ asks_all (BadData place error) p miss write print asked old new h e = e
 asks_all (Missing which) p miss write print asked old new h e = e
 asks_all (ReadFault which) p miss write print asked old new h e = absurd h
 asks_all (WriteFault which) p miss write print asked old new h e = e
-
--- a run of `quick` whose file was read
-pub quick_read : (order : QuickParts) (end : End) (shelf shelf' : ShelfSeen) (tray tray' : TraySeen) (out out' : SinkSeen) (name bytes : List ℕ) (file : Option (List ℕ))
-    → name ≡ order.csv → (IsTrue shelf.tells → file ≡ shelf.files name) → file ≡ Some bytes → (IsTrue shelf.tells → shelf'.asked ≡ shelf.asked ++ name ∷ [])
-    → IsWritten end (quick_layer order (layer_of bytes)) tray tray' out out' → IsRunOf (Quick order) end shelf shelf' tray tray' out out'
-quick_read order end shelf shelf' tray tray' out out' name bytes file csv same is asked w =
-    quick_run order end shelf shelf' tray tray' out out' (Some bytes) (λ t. sym is ∙ same t ∙ ap shelf.files csv)
-    (more_causes end (quick_layer order (layer_of bytes)) _ _ _ _ w.cause)
-    (λ t. asks_all end (quick_layer order (layer_of bytes)) _ _ _ (quick_asks order) _ _ w.cause (asked t ∙ ap (λ n. shelf.asked ++ n ∷ []) csv)) w.outputs w.text
-
--- the end of a run whose layer was not read
-abbrev pub unread_end : Unread → End
-unread_end unread.TooLong = BadData 0 TooLong
-unread_end unread.Absent = Missing (Layer 0)
-unread_end unread.Failed = ReadFault (Layer 0)
-unread_end unread.NoMemory = NoMemory
-
--- a run of `quick` whose file was not read
-pub quick_unread : (order : QuickParts) (why : Unread) (shelf shelf' : ShelfSeen) (tray : TraySeen) (out : SinkSeen) (name : List ℕ) (file : Option (List ℕ))
-    → name ≡ order.csv → (IsTrue shelf.tells → file ≡ shelf.files name) → IsUnread why file MOST_BYTES
-    → UnreadCause why (Rose shelf.faults shelf'.faults) (Rose shelf.misses shelf'.misses)
-    → (IsTrue shelf.tells → UnreadAsks why shelf.asked shelf'.asked name) → IsRunOf (Quick order) (unread_end why) shelf shelf' tray tray out out
-quick_unread order unread.TooLong shelf shelf' tray out name None csv same is cause asked = absurd is
-quick_unread order unread.TooLong shelf shelf' tray out name (Some bytes) csv same is cause asked =
-    let refused : layer_of bytes ≡ _ = long_is_refused bytes is in
-    quick_run order (BadData 0 TooLong) shelf shelf' tray tray out out (Some bytes) (λ t. same t ∙ ap shelf.files csv) (ap (λ l. end_of (quick_layer order l)) refused)
-    (λ t. asked t ∙ ap (λ n. shelf.asked ++ n ∷ []) csv) (λ t q. refl) (λ t. refl)
-quick_unread order unread.Absent shelf shelf' tray out name file csv same is cause asked =
-    quick_run order (Missing (Layer 0)) shelf shelf' tray tray out out file (λ t. same t ∙ ap shelf.files csv) (ap (λ f. end_of (quick_product order f)) is, cause)
-    (λ t. asked t ∙ ap (λ n. shelf.asked ++ n ∷ []) csv) (λ t q. refl) (λ t. refl)
-quick_unread order unread.Failed shelf shelf' tray out name file csv same is cause asked =
-    quick_run order (ReadFault (Layer 0)) shelf shelf' tray tray out out file (λ t. same t ∙ ap shelf.files csv) (0, refl, cause)
-    (λ t. (0, refl, asked t ∙ ap (λ n. shelf.asked ++ n ∷ []) csv)) (λ t q. refl) (λ t. refl)
-quick_unread order unread.NoMemory shelf shelf' tray out name file csv same is cause asked =
-    quick_run order NoMemory shelf shelf' tray tray out out file (λ t. same t ∙ ap shelf.files csv) tt
-    (λ t. (0, asked t ∙ sym (append-nil shelf.asked))) (λ t. (0, λ q. refl)) (λ t. (0, sym (append-nil out.taken)))
 
 -- what a run that has read leaves untouched
 untouched_more : (end : End) (shelf tray out : Type 0) → Untouched end ⊥ tray out → Untouched end shelf tray out
@@ -152,6 +77,20 @@ untouched_more (WriteFault (Output k)) shelf tray out h = h
 untouched_more (WriteFault Text) shelf tray out h = h
 untouched_more (WriteFault Project) shelf tray out h = h
 untouched_more (WriteFault (Layer place)) shelf tray out h = h
+
+-- what was made of a value that was read leaves no more untouched than the sink
+pub made_untouched : (end : End) (tray out : Type 0) → Untouched end ⊥ ⊥ out → Untouched end ⊥ tray out
+made_untouched Done tray out h = h
+made_untouched NoMemory tray out h = h
+made_untouched Usage tray out h = absurd h.0
+made_untouched (BadProject error) tray out h = absurd h.0
+made_untouched (BadData place error) tray out h = absurd h.0
+made_untouched (Missing which) tray out h = absurd h.0
+made_untouched (ReadFault which) tray out h = absurd h.0
+made_untouched (WriteFault (Output k)) tray out h = h
+made_untouched (WriteFault Text) tray out h = h
+made_untouched (WriteFault Project) tray out h = h
+made_untouched (WriteFault (Layer place)) tray out h = h
 
 -- without a fault no end is one
 not_fault : (end : End) (p : Product) (read : Which → Type 0) (miss write print : Type 0) → HasCause end p read miss write print
