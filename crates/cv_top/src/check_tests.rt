@@ -23,7 +23,7 @@ const LAND: &str =
 const GRID: &str = "ncols 2 nrows 1 xllcorner 0 yllcorner 0 cellsize 1 3 4";
 
 // Files of these names and texts.
-fn files_of(alloc: Global, pairs: &[(&str, &str)]) -> Result<Files, AllocError> {
+pub(super) fn files_of(alloc: Global, pairs: &[(&str, &str)]) -> Result<Files, AllocError> {
     let mut files = BTreeMap::new(alloc);
     for (name, text) in pairs {
         let bytes = Vec::from_slice(alloc, text.as_bytes())?;

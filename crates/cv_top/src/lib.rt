@@ -22,4 +22,6 @@ pub use top::{run, run_once, run_surely};
 #[cfg(test)]
 mod check_tests;
 #[cfg(test)]
+mod paint_tests;
+#[cfg(test)]
 mod tests;
