@@ -9,7 +9,6 @@ mod frames;
 mod input;
 pub mod laws;
 mod layers;
-mod opening;
 mod row;
 mod store;
 mod tally;
