@@ -3,4 +3,6 @@ pub mod Stores
 pub mod Tallies
 pub mod Maps
 pub mod Answers
+pub mod Data
 pub mod Laws
+pub mod Opened
