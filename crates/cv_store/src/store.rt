@@ -95,6 +95,15 @@ impl Store {
         }
     }
 
+    /// How many layers there are, at most 32.
+    pub fn len(&self) -> u32
+        ensures len { result ≡ length self.now.layers }
+        ensures few { result ≤ 32 }
+        ensures kept { IsStore self.now }
+    {
+        self.layers.len() as u32
+    }
+
     /// Whether as many edits were accepted as may be.
     #[tactic(auto, unfolding(cv_model::specs::Edits::most_edits))]
     pub(crate) fn is_spent(&self) -> bool
