@@ -1,9 +1,9 @@
 -- The run between the columns before a shape and those behind it.
-use Rattle.std.proofs.Common.{◌≡◌, ◌∙◌, sym, refl, ℕ, ◌<◌, ◌≤◌, nat_lt, nat_le, Bool, true, false, not, ◌&&◌, ◌||◌, List, [], ◌∷◌, arith}
+use Rattle.std.proofs.Common.{◌≡◌, ◌∙◌, sym, refl, ℕ, ◌+◌, ◌<◌, ◌≤◌, ◌⊎◌, inl, inr, nat_lt, nat_le, Bool, true, false, not, ◌&&◌, ◌||◌, List, [], ◌∷◌, arith}
 use Rattle.std.proofs.lemmas.Bool.Decides.{nat_tests}
 use Rattle.cv_model.specs.declared.span.Span.{Span}
 use Rattle.cv_geom.specs.Falls.{FallsAt}
-use Rattle.cv_geom.specs.Spans.{AreRuns}
+use Rattle.cv_geom.specs.Spans.{AreApart, AreRuns, is_covered}
 
 -- a column lies in the run exactly where it isn't before the shape and is reached
 some-covered :
@@ -56,3 +56,56 @@ runs-alike p q from to spans alike runs = record {
   apart = runs.apart;
   covered = λ i below under. runs.covered i below under ∙ alike i;
 }
+
+-- ---- runs of some columns among more
+
+-- no column before or behind spans lies in one
+apart-outside :
+    (low high i : ℕ) (spans : List Span) → AreApart low high spans → (i < low) ⊎ (high ≤ i) → is_covered i spans ≡ false
+apart-outside low high i [] apart out = refl
+apart-outside low high i (span ∷ rest) apart out =
+    let order = apart.1 in
+    let here = beside (nat_le span.from i) (nat_lt i span.end) refl refl out in
+    let later = apart-outside (span.end + 1) high i rest apart.3 (further out) in
+    rw (here, later) refl
+  where
+    further : (i < low) ⊎ (high ≤ i) → (i < span.end + 1) ⊎ (high ≤ i)
+    further (inl before) =
+        let from = apart.0 in let order = apart.1 in inl (omega arith)
+    further (inr behind) = inr behind
+
+    beside :
+        (s t : Bool) → nat_le span.from i ≡ s → nat_lt i span.end ≡ t → (i < low) ⊎ (high ≤ i) → (s && t) ≡ false
+    beside true true west east (inl before) = let from = apart.0 in absurd (grind (arith, nat_tests))
+    beside true true west east (inr behind) = let end = apart.2 in absurd (grind (arith, nat_tests))
+    beside true false west east out = refl
+    beside false t west east out = refl
+
+apart-wide :
+    (low high from to : ℕ) (spans : List Span) → from ≤ low → high ≤ to → AreApart low high spans
+    → AreApart from to spans
+apart-wide low high from to [] west east apart = tt
+apart-wide low high from to (span ∷ rest) west east apart = (
+  omega (arith, apart.0),
+  apart.1,
+  omega (arith, apart.2),
+  apart-wide (span.end + 1) high (span.end + 1) to rest (omega arith) east apart.3,
+)
+
+-- where a test fails at all other columns, its runs among some are those among more
+pub runs-widen :
+    (test : ℕ → Bool) (west east from to : ℕ) (spans : List Span) → from ≤ west → east ≤ to
+    → ((i : ℕ) → from ≤ i → i < to → (i < west) ⊎ (east ≤ i) → test i ≡ false) → AreRuns test west east spans
+    → AreRuns test from to spans
+runs-widen test west east from to spans low high none runs = record {
+  apart = apart-wide west east from to spans low high runs.apart;
+  covered = λ i below under. pick i below under (nat_lt i west) (nat_lt i east) refl refl;
+}
+  where
+    beside : (i : ℕ) → from ≤ i → i < to → (i < west) ⊎ (east ≤ i) → is_covered i spans ≡ test i
+    beside i below under out = apart-outside west east i spans runs.apart out ∙ sym (none i below under out)
+
+    pick : (i : ℕ) → from ≤ i → i < to → (s t : Bool) → nat_lt i west ≡ s → nat_lt i east ≡ t → is_covered i spans ≡ test i
+    pick i below under true t before behind = beside i below under (inl (grind (arith, nat_tests)))
+    pick i below under false true before behind = runs.covered i (grind (arith, nat_tests)) (grind (arith, nat_tests))
+    pick i below under false false before behind = beside i below under (inr (grind (arith, nat_tests)))

@@ -312,6 +312,16 @@ meets-none r p a b level = by (overlaps r p.x a.x b.x) (overlaps r p.y a.y b.y) 
     by true true s none = cc
     by false true s none = cc
 
+-- nor where their widths don't
+pub meets-beside :
+    (r : ℤ) (p a b : Position) → overlaps r p.x a.x b.x ≡ false → meets_square r p a b ≡ false
+unfolding meets_square
+meets-beside r p a b apart = by (overlaps r p.x a.x b.x) (overlaps r p.y a.y b.y) (straddles a b (corners r p)) apart
+  where
+    by : (x y s : Bool) → x ≡ false → ((x && y) && s) ≡ false
+    by true y s none = cc
+    by false y s none = refl
+
 -- a product with a way back
 back-mul : (d y e : ℤ) → neg_ℤ d *ℤ (y +ℤ neg_ℤ e) ≡ neg_ℤ (d *ℤ y) +ℤ d *ℤ e
 back-mul d y e =

@@ -22,11 +22,3 @@ is_before r p a b = not (int_le (int_min a.x b.x) (p.x +ℤ r)) || int_lt (corne
 -- it lies wholly right neither of the box nor of the line
 abbrev pub is_reached : ℤ → Position → Position → Position → Bool
 is_reached r p a b = int_le (p.x -ℤ r) (int_max a.x b.x) && int_le (neg_ℤ (corner_way r a b)) (side_of a b p)
-
--- the stretch of half-length r round p lies wholly above the one between a and b
-abbrev pub is_above : ℤ → ℤ → ℤ → ℤ → Bool
-is_above r p a b = not (int_le (p -ℤ r) (int_max a b))
-
--- it doesn't lie wholly below
-abbrev pub is_down_to : ℤ → ℤ → ℤ → ℤ → Bool
-is_down_to r p a b = int_le (int_min a b) (p +ℤ r)

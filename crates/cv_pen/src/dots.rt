@@ -9,8 +9,9 @@ ghost use Rattle.cv_geom.specs.Spans.{AreRuns};
 ghost use Rattle.cv_pen.specs.Dots.{IsMarkerSize, is_before, is_reached};
 
 use crate::between::run_between;
+use crate::boxes::columns_by;
 use crate::strokes::half_side;
-use cv_geom::{Steps, centre, distance_to, marked};
+use cv_geom::{Steps, centre, distance_to, doubled_sides, marked};
 use cv_model::{Point, Point2, Shape, Span, View};
 use std::marker::Brand;
 use std::sync::ledger::{Blank, Ledger};
@@ -38,14 +39,10 @@ pub fn marker_in<L: Ledger>(
     ensures cost { steps.new ≡ steps.old + 1 }
 {
     steps.tick();
-    marker_between(
-        shape,
-        at,
-        half_side(view, size),
-        view,
-        row,
-        Span { from, end: to },
-    )
+    let r = half_side(view, size);
+    let sides = doubled_sides(view);
+    let columns = columns_by(at, at, r, view, &sides, Span { from, end: to });
+    marker_between(shape, at, r, view, row, columns)
 }
 
 /// The run of columns that a marker on a point covers in a row; none where it covers none. The size is in
@@ -81,7 +78,7 @@ fn whole_marker<L: Ledger>(
 }
 
 /// The run of columns that a marker of radius `r` covers.
-fn marker_between(
+pub fn marker_between(
     shape: Shape,
     at: Point,
     r: i64,

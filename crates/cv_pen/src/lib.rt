@@ -7,9 +7,9 @@
 #![tactic(auto)]
 
 mod between;
+mod boxes;
 mod dots;
 mod outlines;
-mod rows;
 mod sides;
 mod strokes;
 

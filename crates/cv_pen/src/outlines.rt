@@ -1,6 +1,6 @@
 //! The runs of an area that a pen hits along rings and lines, and that markers cover.
 
-ghost use Rattle.std.specs.Prelude.{◌+◌, ◌*◌, ◌≤◌, OnOk, length};
+ghost use Rattle.std.specs.Prelude.{◌≡◌, ◌+◌, ◌*◌, ◌≤◌, OnOk, length, pos, ◌*ℤ◌};
 ghost use Rattle.std.specs.List.{list_any, flat_map};
 ghost use Rattle.cv_model.specs.Polygons.{edges, edges_from};
 ghost use Rattle.cv_model.specs.Pens.{segments, is_near};
@@ -11,10 +11,10 @@ ghost use Rattle.cv_geom.specs.Runs.{AreRunsOf, IsArea, Adds, edges_of, segments
 ghost use Rattle.cv_pen.specs.Dots.{IsMarkerSize};
 ghost use Rattle.cv_pen.specs.Strokes.{IsPenWidth};
 
-use crate::dots::marker_in;
-use crate::rows::rows_by;
-use crate::strokes::{half_side, stroke_in};
-use cv_geom::{Area, Runs, Steps};
+use crate::boxes::{columns_by, rows_by};
+use crate::dots::marker_between;
+use crate::strokes::{half_side, stroke_between};
+use cv_geom::{Area, Multiples, Runs, Steps, doubled_sides};
 use cv_model::{Line, NoMemory, Point, Polygon, Ring, Shape, View};
 use std::sync::ledger::Ledger;
 
@@ -39,7 +39,15 @@ pub fn ring_runs<L: Ledger>(
     ensures cost { steps.new ≤ steps.old + length (edges_of polygons.now) * rows_of area }
 {
     into.clear();
-    put_polygons(polygons, width, view, area, into, steps)?;
+    put_polygons(
+        polygons,
+        width,
+        view,
+        &doubled_sides(view),
+        area,
+        into,
+        steps,
+    )?;
     into.unite()?;
     Ok(())
 }
@@ -65,7 +73,7 @@ pub fn line_runs<L: Ledger>(
     ensures cost { steps.new ≤ steps.old + length (segments_of lines.now) * rows_of area }
 {
     into.clear();
-    put_lines(lines, width, view, area, into, steps)?;
+    put_lines(lines, width, view, &doubled_sides(view), area, into, steps)?;
     into.unite()?;
     Ok(())
 }
@@ -91,7 +99,16 @@ pub fn marker_runs<L: Ledger>(
     ensures cost { steps.new ≤ steps.old + length points.now * rows_of area }
 {
     into.clear();
-    put_markers(points, shape, size, view, area, into, steps)?;
+    put_markers(
+        points,
+        shape,
+        size,
+        view,
+        &doubled_sides(view),
+        area,
+        into,
+        steps,
+    )?;
     into.unite()?;
     Ok(())
 }
@@ -101,10 +118,12 @@ fn put_polygons<L: Ledger>(
     polygons: &[Polygon],
     width: u32,
     view: &View,
+    sides: &Multiples,
     area: Area,
     into: &mut Runs,
     steps: &mut Steps<L>,
 ) -> Result<(), NoMemory>
+    requires sides { pos sides.now ≡ pos 2 *ℤ view.now.u }
     requires width { IsPenWidth width }
     requires area { IsArea view.now.w view.now.h area }
     ensures added { OnOk result (Adds
@@ -114,7 +133,7 @@ fn put_polygons<L: Ledger>(
     ensures cost { steps.new ≤ steps.old + length (edges_of polygons.now) * rows_of area }
 {
     for polygon in polygons {
-        put_rings(polygon.as_slice(), width, view, area, into, steps)?;
+        put_rings(polygon.as_slice(), width, view, sides, area, into, steps)?;
     }
     Ok(())
 }
@@ -124,10 +143,12 @@ fn put_rings<L: Ledger>(
     rings: &[Ring],
     width: u32,
     view: &View,
+    sides: &Multiples,
     area: Area,
     into: &mut Runs,
     steps: &mut Steps<L>,
 ) -> Result<(), NoMemory>
+    requires sides { pos sides.now ≡ pos 2 *ℤ view.now.u }
     requires width { IsPenWidth width }
     requires area { IsArea view.now.w view.now.h area }
     ensures added { OnOk result (Adds
@@ -136,7 +157,7 @@ fn put_rings<L: Ledger>(
     ensures cost { steps.new ≤ steps.old + length (flat_map edges rings.now) * rows_of area }
 {
     for ring in rings {
-        put_ring(ring.as_slice(), width, view, area, into, steps)?;
+        put_ring(ring.as_slice(), width, view, sides, area, into, steps)?;
     }
     Ok(())
 }
@@ -146,10 +167,12 @@ fn put_ring<L: Ledger>(
     points: &[Point],
     width: u32,
     view: &View,
+    sides: &Multiples,
     area: Area,
     into: &mut Runs,
     steps: &mut Steps<L>,
 ) -> Result<(), NoMemory>
+    requires sides { pos sides.now ≡ pos 2 *ℤ view.now.u }
     requires width { IsPenWidth width }
     requires area { IsArea view.now.w view.now.h area }
     ensures added { OnOk result (Adds
@@ -160,7 +183,7 @@ fn put_ring<L: Ledger>(
     let Some(last) = points.last() else {
         return Ok(());
     };
-    put_path(*last, points, width, view, area, into, steps)
+    put_path(*last, points, width, view, sides, area, into, steps)
 }
 
 /// Puts the runs of an area that a pen hits along some lines behind the others.
@@ -168,10 +191,12 @@ fn put_lines<L: Ledger>(
     lines: &[Line],
     width: u32,
     view: &View,
+    sides: &Multiples,
     area: Area,
     into: &mut Runs,
     steps: &mut Steps<L>,
 ) -> Result<(), NoMemory>
+    requires sides { pos sides.now ≡ pos 2 *ℤ view.now.u }
     requires width { IsPenWidth width }
     requires area { IsArea view.now.w view.now.h area }
     ensures added { OnOk result (Adds
@@ -180,7 +205,7 @@ fn put_lines<L: Ledger>(
     ensures cost { steps.new ≤ steps.old + length (segments_of lines.now) * rows_of area }
 {
     for line in lines {
-        put_line(line.as_slice(), width, view, area, into, steps)?;
+        put_line(line.as_slice(), width, view, sides, area, into, steps)?;
     }
     Ok(())
 }
@@ -190,10 +215,12 @@ fn put_line<L: Ledger>(
     points: &[Point],
     width: u32,
     view: &View,
+    sides: &Multiples,
     area: Area,
     into: &mut Runs,
     steps: &mut Steps<L>,
 ) -> Result<(), NoMemory>
+    requires sides { pos sides.now ≡ pos 2 *ℤ view.now.u }
     requires width { IsPenWidth width }
     requires area { IsArea view.now.w view.now.h area }
     ensures added { OnOk result (Adds
@@ -203,8 +230,8 @@ fn put_line<L: Ledger>(
 {
     match points {
         [] => Ok(()),
-        [only] => put_segment(*only, *only, width, view, area, into, steps),
-        [first, rest @ ..] => put_path(*first, rest, width, view, area, into, steps),
+        [only] => put_segment(*only, *only, width, view, sides, area, into, steps),
+        [first, rest @ ..] => put_path(*first, rest, width, view, sides, area, into, steps),
     }
 }
 
@@ -214,10 +241,12 @@ fn put_path<L: Ledger>(
     points: &[Point],
     width: u32,
     view: &View,
+    sides: &Multiples,
     area: Area,
     into: &mut Runs,
     steps: &mut Steps<L>,
 ) -> Result<(), NoMemory>
+    requires sides { pos sides.now ≡ pos 2 *ℤ view.now.u }
     requires width { IsPenWidth width }
     requires area { IsArea view.now.w view.now.h area }
     ensures added { OnOk result (Adds
@@ -228,7 +257,7 @@ fn put_path<L: Ledger>(
 {
     let mut before = first;
     for point in points {
-        put_segment(before, *point, width, view, area, into, steps)?;
+        put_segment(before, *point, width, view, sides, area, into, steps)?;
         before = *point;
     }
     Ok(())
@@ -240,10 +269,12 @@ fn put_segment<L: Ledger>(
     b: Point,
     width: u32,
     view: &View,
+    sides: &Multiples,
     area: Area,
     into: &mut Runs,
     steps: &mut Steps<L>,
 ) -> Result<(), NoMemory>
+    requires sides { pos sides.now ≡ pos 2 *ℤ view.now.u }
     requires width { IsPenWidth width }
     requires area { IsArea view.now.w view.now.h area }
     ensures added { OnOk result (Adds
@@ -252,18 +283,11 @@ fn put_segment<L: Ledger>(
     ensures cost { steps.new ≤ steps.old + rows_of area }
 {
     let r = half_side(view, width);
-    let rows = rows_by(a, b, r, view, area.rows);
+    let rows = rows_by(a, b, r, view, sides, area.rows);
+    let columns = columns_by(a, b, r, view, sides, area.columns);
     for row in rows.from..rows.end {
-        let run = stroke_in(
-            a,
-            b,
-            width,
-            view,
-            row,
-            area.columns.from,
-            area.columns.end,
-            steps,
-        );
+        steps.tick();
+        let run = stroke_between(a, b, r, view, row, columns);
         into.put_span(row, run)?;
     }
     Ok(())
@@ -275,10 +299,12 @@ fn put_markers<L: Ledger>(
     shape: Shape,
     size: u32,
     view: &View,
+    sides: &Multiples,
     area: Area,
     into: &mut Runs,
     steps: &mut Steps<L>,
 ) -> Result<(), NoMemory>
+    requires sides { pos sides.now ≡ pos 2 *ℤ view.now.u }
     requires size { IsMarkerSize size }
     requires area { IsArea view.now.w view.now.h area }
     ensures added { OnOk result (Adds
@@ -287,7 +313,7 @@ fn put_markers<L: Ledger>(
     ensures cost { steps.new ≤ steps.old + length points.now * rows_of area }
 {
     for point in points {
-        put_marker(*point, shape, size, view, area, into, steps)?;
+        put_marker(*point, shape, size, view, sides, area, into, steps)?;
     }
     Ok(())
 }
@@ -298,10 +324,12 @@ fn put_marker<L: Ledger>(
     shape: Shape,
     size: u32,
     view: &View,
+    sides: &Multiples,
     area: Area,
     into: &mut Runs,
     steps: &mut Steps<L>,
 ) -> Result<(), NoMemory>
+    requires sides { pos sides.now ≡ pos 2 *ℤ view.now.u }
     requires size { IsMarkerSize size }
     requires area { IsArea view.now.w view.now.h area }
     ensures added { OnOk result (Adds
@@ -310,18 +338,11 @@ fn put_marker<L: Ledger>(
     ensures cost { steps.new ≤ steps.old + rows_of area }
 {
     let r = half_side(view, size);
-    let rows = rows_by(at, at, r, view, area.rows);
+    let rows = rows_by(at, at, r, view, sides, area.rows);
+    let columns = columns_by(at, at, r, view, sides, area.columns);
     for row in rows.from..rows.end {
-        let run = marker_in(
-            shape,
-            at,
-            size,
-            view,
-            row,
-            area.columns.from,
-            area.columns.end,
-            steps,
-        );
+        steps.tick();
+        let run = marker_between(shape, at, r, view, row, columns);
         into.put_span(row, run)?;
     }
     Ok(())

@@ -9,8 +9,9 @@ ghost use Rattle.cv_geom.specs.Spans.{AreRuns};
 ghost use Rattle.cv_pen.specs.Strokes.{IsPenWidth, is_before, is_reached};
 
 use crate::between::run_between;
+use crate::boxes::columns_by;
 use crate::sides::{corner_way, is_before, is_reached, rise_at};
-use cv_geom::{Steps, centre, overlaps_upwards};
+use cv_geom::{Steps, centre, doubled_sides, overlaps_upwards};
 use cv_model::{Point, Span, View};
 use std::marker::Brand;
 use std::sync::ledger::{Blank, Ledger};
@@ -38,14 +39,10 @@ pub fn stroke_in<L: Ledger>(
     ensures cost { steps.new ≡ steps.old + 1 }
 {
     steps.tick();
-    stroke_between(
-        a,
-        b,
-        half_side(view, width),
-        view,
-        row,
-        Span { from, end: to },
-    )
+    let r = half_side(view, width);
+    let sides = doubled_sides(view);
+    let columns = columns_by(a, b, r, view, &sides, Span { from, end: to });
+    stroke_between(a, b, r, view, row, columns)
 }
 
 /// The run of columns that a pen hits in a row while it follows the segment between two points; none
@@ -102,7 +99,14 @@ fn times(size: u32, u: i64) -> i64
 }
 
 /// The run of columns that a pen of half-side `r` hits.
-fn stroke_between(a: Point, b: Point, r: i64, view: &View, row: u32, columns: Span) -> Option<Span>
+pub fn stroke_between(
+    a: Point,
+    b: Point,
+    r: i64,
+    view: &View,
+    row: u32,
+    columns: Span,
+) -> Option<Span>
     requires radius { IsRadius r }
     requires row { row < view.now.h }
     requires order { columns.from ≤ columns.end }

@@ -4,3 +4,4 @@ pub mod RunLemmas
 pub mod MarkLemmas
 pub mod CrossingLemmas
 pub mod PlaneLemmas
+pub mod HeldLemmas

@@ -10,16 +10,16 @@ use Rattle.std.proofs.lemmas.List.Elements.{All-nil, All-cons, All-head, All-tai
 use Rattle.std.proofs.lemmas.List.Sorted.{All-permutation, sum_by-IsPermutation, IsPermutation-trans, IsPermutation-reverse}
 use Rattle.std.proofs.lemmas.List.{get_or-reverse, length-reverse}
 use Rattle.std.proofs.lemmas.Int.{ints}
-use Rattle.cv_geom.specs.Falls.{FallsAt, FallsIn}
+use Rattle.cv_geom.specs.Falls.{FallsIn}
 use Rattle.cv_geom.proofs.ProductLemmas.{mul-le-mulZ}
 use Rattle.cv_model.specs.Positions.{Position, doubled}
 use Rattle.cv_model.specs.Views.{PixelGrid, centre_of}
 use Rattle.cv_model.specs.Polygons.{is_low, is_crossed, passes_right}
 use Rattle.cv_geom.specs.declared.runs.Run.{Run}
 use Rattle.cv_geom.specs.declared.runs.Area.{Area}
-use Rattle.cv_geom.specs.Runs.{is_on, is_on_any, IsIn, LiesIn, Adds}
+use Rattle.cv_geom.specs.Runs.{is_on, is_on_any, LiesIn, Adds}
 use Rattle.cv_scan.specs.declared.marks.Mark.{Mark}
-use Rattle.cv_scan.specs.Marks.{is_right, marks_right, MarkIn, AddsMarks, IsBefore, Descends, run_between, runs_from}
+use Rattle.cv_scan.specs.Marks.{is_right, marks_right, MarkIn, IsBefore, Descends, run_between, runs_from}
 
 -- a mark counts once
 abbrev pub once : ℕ → ℕ → Mark → ℕ
@@ -31,98 +31,11 @@ right-cons i j a marks = sum_by-cons (once i j) a marks
 pub right-append : (i j : ℕ) (xs ys : List Mark) → marks_right i j (xs ++ ys) ≡ marks_right i j xs + marks_right i j ys
 right-append i j xs ys = sum_by-append (once i j) xs ys
 
--- ---- marks that are put one after the other
-
--- what is still to be marked makes what was marked whole
-pub record StillMarks (crossed rest : ℕ → ℕ → ℕ) (area : Area) (old now : List Mark) : Type 0 where
-  pub within : All (MarkIn area) old → All (MarkIn area) now
-  pub counted : (i j : ℕ) → IsIn area i j → marks_right i j now + rest i j ≡ marks_right i j old + crossed i j
-
-pub still-start :
-    (crossed rest : ℕ → ℕ → ℕ) (area : Area) (marks : List Mark) → ((i j : ℕ) → rest i j ≡ crossed i j)
-    → StillMarks crossed rest area marks marks
-still-start crossed rest area marks same = record {
-  within = λ all. all;
-  counted = λ i j is. ap (λ n. marks_right i j marks + n) (same i j);
-}
-
-pub still-done :
-    (crossed rest : ℕ → ℕ → ℕ) (area : Area) (old now : List Mark) → ((i j : ℕ) → rest i j ≡ 0)
-    → StillMarks crossed rest area old now → AddsMarks crossed area old now
-still-done crossed rest area old now none told = record {
-  within = told.within;
-  counted = λ i j is. let no = none i j in let here = told.counted i j is in omega arith;
-}
-
-pub still-step :
-    (crossed here rest later : ℕ → ℕ → ℕ) (area : Area) (old now new : List Mark)
-    → ((i j : ℕ) → rest i j ≡ here i j + later i j) → StillMarks crossed rest area old now
-    → AddsMarks here area now new → StillMarks crossed later area old new
-still-step crossed here rest later area old now new split told added = record {
-  within = λ all. added.within (told.within all);
-  counted = λ i j is.
-      let parts = split i j in
-      let before = told.counted i j is in
-      let more = added.counted i j is in
-      omega arith;
-}
-
--- ---- the marks of an edge, row by row
+-- ---- an edge at the height of a row
 
 -- one for what holds
 abbrev pub to_count : Bool → ℕ
 to_count b = if b then 1 else 0
-
-plus-zero : (n k : ℕ) → k ≡ 0 → n ≡ n + k
-plus-zero n k none = omega arith
-
--- one row more
-pub marks-row :
-    (v : PixelGrid) (a b : Position) (area : Area) (row column : ℕ) (first old new : List Mark)
-    → area.rows.from ≤ row → row < area.rows.end
-    → FallsAt (λ i. is_crossed (centre_of v i row) (a, b)) area.columns.from area.columns.end column
-    → AddsMarks (λ i j. if nat_lt j row then (if is_crossed (centre_of v i j) (a, b) then 1 else 0) else 0) area first old
-    → new ≡ old ++ (record { row = row; column = column }) ∷ []
-    → AddsMarks (λ i j. if nat_lt j (row + 1) then (if is_crossed (centre_of v i j) (a, b) then 1 else 0) else 0) area first new
-marks-row v a b area row column first old new north south falls before put = record {
-  within = λ all.
-      rw put
-      (All-append (MarkIn area) old ((record { row = row; column = column }) ∷ []) (before.within all)
-      (All-cons (MarkIn area) (record { row = row; column = column }) []
-      (record { north = north; south = south; west = falls.low_in; east = falls.high_in })
-      (All-nil (MarkIn area))));
-  counted = λ i j here.
-      let mark : Mark = record { row = row; column = column } in
-      let split = ap (marks_right i j) put ∙ right-append i j old (mark ∷ []) in
-      let one = right-cons i j mark [] in
-      let told = before.counted i j here in
-      let crossed : is_crossed (centre_of v i row) (a, b) ≡ nat_lt i column = falls.falls i here.west here.east in
-      let step = by-row i j (j == row) (nat_lt j row) refl refl crossed in
-      omega arith;
-}
-  where
-    by-row :
-        (i j : ℕ) (here before : Bool) → (j == row) ≡ here → nat_lt j row ≡ before
-        → is_crossed (centre_of v i row) (a, b) ≡ nat_lt i column
-        → (if nat_lt j (row + 1) then (if is_crossed (centre_of v i j) (a, b) then 1 else 0) else 0)
-        ≡ (if before then (if is_crossed (centre_of v i j) (a, b) then 1 else 0) else 0) + cond (here && nat_lt i column) 1 0
-    by-row i j true true same less crossed = absurd (grind (arith, nat_tests))
-    by-row i j true false same less crossed =
-        let at : j ≡ row = grind (arith, nat_tests) in
-        let more : nat_lt j (row + 1) ≡ true = grind (arith, nat_tests) in
-        let told : is_crossed (centre_of v i j) (a, b) ≡ nat_lt i column =
-        ap (λ n. is_crossed (centre_of v i n) (a, b)) at ∙ crossed in
-        rw (more, told) (plus-none (nat_lt i column))
-      where
-        plus-none : (b : Bool) → (if b then 1 else 0) ≡ 0 + cond b 1 0
-        plus-none true = omega arith
-        plus-none false = omega arith
-    by-row i j false true same less crossed =
-        let more : nat_lt j (row + 1) ≡ true = grind (arith, nat_tests) in
-        rw more (omega arith)
-    by-row i j false false same less crossed =
-        let more : nat_lt j (row + 1) ≡ false = grind (arith, nat_tests) in
-        rw more (omega arith)
 
 -- where both ends are low, or none is, an edge isn't crossed
 pub level-crossed :
@@ -144,46 +57,6 @@ level-crossed v i j a b same =
     level true false up down same = cc
     level false true up down same = cc
     level false false up down same = refl
-
--- nothing is marked before the first row
-pub marks-none :
-    (v : PixelGrid) (a b : Position) (area : Area) (row : ℕ) (marks : List Mark)
-    → ((j : ℕ) → area.rows.from ≤ j → j < row
-    → is_low (centre_of v 0 j) (doubled a) ≡ is_low (centre_of v 0 j) (doubled b))
-    → AddsMarks (λ i j. if nat_lt j row then (if is_crossed (centre_of v i j) (a, b) then 1 else 0) else 0) area marks marks
-marks-none v a b area row marks level = record {
-  within = λ all. all;
-  counted = λ i j here. pick i j (nat_lt j row) refl here.north;
-}
-  where
-    pick :
-        (i j : ℕ) (t : Bool) → nat_lt j row ≡ t → area.rows.from ≤ j
-        → marks_right i j marks ≡ marks_right i j marks + (if t then (if is_crossed (centre_of v i j) (a, b) then 1 else 0) else 0)
-    pick i j true less north =
-        let no = level-crossed v i j a b (level j north (grind (arith, nat_tests))) in
-        plus-zero (marks_right i j marks) (to_count (is_crossed (centre_of v i j) (a, b))) (ap to_count no)
-    pick i j false less north = plus-zero (marks_right i j marks) 0 refl
-
--- nor behind the last
-pub marks-all :
-    (v : PixelGrid) (a b : Position) (area : Area) (row : ℕ) (old new : List Mark)
-    → ((j : ℕ) → row ≤ j → j < area.rows.end
-    → is_low (centre_of v 0 j) (doubled a) ≡ is_low (centre_of v 0 j) (doubled b))
-    → AddsMarks (λ i j. if nat_lt j row then (if is_crossed (centre_of v i j) (a, b) then 1 else 0) else 0) area old new
-    → AddsMarks (λ i j. if is_crossed (centre_of v i j) (a, b) then 1 else 0) area old new
-marks-all v a b area row old new level told = record {
-  within = told.within;
-  counted = λ i j here. told.counted i j here ∙ ap (λ n. marks_right i j old + n) (pick i j (nat_lt j row) refl here.south);
-}
-  where
-    pick :
-        (i j : ℕ) (t : Bool) → nat_lt j row ≡ t → j < area.rows.end
-        → (if t then to_count (is_crossed (centre_of v i j) (a, b)) else 0)
-        ≡ to_count (is_crossed (centre_of v i j) (a, b))
-    pick i j true less south = refl
-    pick i j false less south =
-        let no = level-crossed v i j a b (level j (grind (arith, nat_tests)) south) in
-        sym (ap to_count no)
 
 -- ---- the runs between descending marks
 
@@ -519,19 +392,3 @@ one-paid steps new total rows here rest all is paid cost =
   where
     spread : (a b c : ℕ) → (a + b) * c ≡ a * c + b * c
     spread a b c = grind arith
-
--- marks of crossings that were put behind none tell what is inside
-pub marks-inside :
-    (test : ℕ → ℕ → Bool) (crossed : ℕ → ℕ → ℕ) (area : Area) (marks : List Mark) (old new : List Run)
-    → ((i j : ℕ) → test i j ≡ (crossed i j % 2 == 1)) → AddsMarks crossed area [] marks
-    → Adds (λ i j. marks_right i j marks % 2 == 1) area old new → Adds test area old new
-marks-inside test crossed area marks old new told marked added = record {
-  within = added.within;
-  covered = λ i j here.
-      added.covered i j here
-      ∙ ap (λ t. is_on_any i j old || t)
-      (ap (λ n. n % 2 == 1) (marked.counted i j here ∙ zero-plus (crossed i j)) ∙ sym (told i j));
-}
-  where
-    zero-plus : (n : ℕ) → 0 + n ≡ n
-    zero-plus n = omega arith

@@ -8,13 +8,13 @@ use Rattle.std.proofs.lemmas.Bool.Decides.{nat_tests}
 use Rattle.std.proofs.lemmas.List.{append_assoc, get_or-set_same, get_or-set_other, length-set}
 use Rattle.std.proofs.lemmas.List.Elements.{All-nil, All-cons}
 use Rattle.std.proofs.lemmas.List.Sorted.{IsPermutation-refl}
-use Rattle.std.proofs.lemmas.Nat.Bits.{bit_at_xor, bit_at-pow_same, bit_at-pow_other, bit_at-lt}
+use Rattle.std.proofs.lemmas.Nat.Bits.{bit_at_xor, bit_at-pow_same, bit_at-pow_other, bit_at-lt, bit_at-zero}
 use Rattle.cv_geom.specs.declared.runs.Run.{Run}
 use Rattle.cv_geom.specs.declared.runs.Area.{Area}
 use Rattle.cv_geom.specs.Runs.{is_on_any, IsIn, Adds}
 use Rattle.cv_scan.specs.declared.marks.Mark.{Mark}
 use Rattle.cv_scan.specs.Marks.{marks_right, MarkIn, Descends, runs_from}
-use Rattle.cv_scan.specs.Planes.{bit_of, toggled, width_of, first_of, HasBits, set_marks, right_bits, HoldMarks}
+use Rattle.cv_scan.specs.Planes.{bit_of, toggled, width_of, first_of, HasBits, set_marks, right_bits, bits_right, HoldMarks}
 use Rattle.cv_scan.proofs.MarkLemmas.{once, to_count, right-cons, AreDescending, pairs-added}
 
 -- ---- a bit that changes
@@ -260,15 +260,27 @@ skipped-odd area words mark rest i j total here left before =
     let split = right-cons i j mark rest in
     omega arith
 
--- where no bit is set none lies right of a pixel
-pub clear-none :
-    (words : List ℕ) (area : Area) (row x n : ℕ) → ((place : ℕ) → bit_of words place ≡ 0)
-    → right_bits words area row x n ≡ 0
-clear-none words area row x zero clear = refl
-clear-none words area row x (suc n) clear =
-    let rest = clear-none words area row x n clear in
-    let bit = clear (first_of area row + n) in
-    pick (nat_le x n) (bit_of words (first_of area row + n)) (right_bits words area row x n) bit rest
+-- planes with the same bits tell the same
+pub right-same :
+    (new old : List ℕ) (area : Area) (row x n : ℕ) → ((place : ℕ) → bit_of new place ≡ bit_of old place)
+    → right_bits new area row x n ≡ right_bits old area row x n
+right-same new old area row x zero same = refl
+right-same new old area row x (suc n) same =
+    let rest = right-same new old area row x n same in
+    let bit = same (first_of area row + n) in
+    ap (λ (b : ℕ). (if nat_le x n then b else 0) + right_bits new area row x n) bit
+    ∙ ap (λ (k : ℕ). (if nat_le x n then bit_of old (first_of area row + n) else 0) + k) rest
+
+-- without words no bit is set
+pub empty-bit : (place : ℕ) → bit_of [] place ≡ 0
+empty-bit place = bit_at-zero (place % 64)
+
+pub empty-none : (area : Area) (row x n : ℕ) → right_bits [] area row x n ≡ 0
+empty-none area row x zero = refl
+empty-none area row x (suc n) =
+    let rest = empty-none area row x n in
+    let bit = empty-bit (first_of area row + n) in
+    pick (nat_le x n) (bit_of [] (first_of area row + n)) (right_bits [] area row x n) bit rest
   where
     pick : (s : Bool) (bit rest : ℕ) → bit ≡ 0 → rest ≡ 0 → (if s then bit else 0) + rest ≡ 0
     pick true bit rest none later = omega arith
@@ -517,40 +529,38 @@ row-more test area row odd first old new is before added = record {
 
 -- one row more
 pub row-read :
-    (area : Area) (marks read : List Mark) (words : List ℕ) (row : ℕ) (first old new : List Run)
-    → area.columns.from ≤ area.columns.end → HoldMarks area marks words → area.rows.from ≤ row → row < area.rows.end
-    → Adds (λ i j. nat_lt j row && (marks_right i j marks % 2 == 1)) area first old
+    (area : Area) (read : List Mark) (words : List ℕ) (row : ℕ) (first old new : List Run)
+    → area.columns.from ≤ area.columns.end → area.rows.from ≤ row → row < area.rows.end
+    → Adds (λ i j. nat_lt j row && (bits_right i j area words % 2 == 1)) area first old
     → read ≡ set_marks words area row (width_of area)
     → new ≡ old ++ runs_from area.columns.from None read
-    → Adds (λ i j. nat_lt j (row + 1) && (marks_right i j marks % 2 == 1)) area first new
-row-read area marks read words row first old new order held north south before is put =
+    → Adds (λ i j. nat_lt j (row + 1) && (bits_right i j area words % 2 == 1)) area first new
+row-read area read words row first old new order north south before is put =
     let within : All (MarkIn area) read = rw is (set-in words area row (width_of area) north south (omega arith)) in
     let falls : AreDescending read = rw is (set-falls words area row (width_of area)) in
-    row-more (λ i j. marks_right i j marks % 2 == 1) area row (λ i j. marks_right i j read % 2 == 1) first old new
+    row-more (λ i j. bits_right i j area words % 2 == 1) area row (λ i j. marks_right i j read % 2 == 1) first old new
     (λ i j here. odd i j here (j == row) refl) before
     (pairs-added area read read old new within (IsPermutation-refl read) falls put)
   where
     odd :
         (i j : ℕ) → IsIn area i j → (t : Bool) → (j == row) ≡ t
-        → (marks_right i j read % 2 == 1) ≡ (t && (marks_right i j marks % 2 == 1))
+        → (marks_right i j read % 2 == 1) ≡ (t && (bits_right i j area words % 2 == 1))
     odd i j here true same =
         let at : j ≡ row = grind (arith, nat_tests) in
         let there = set-right words area j i (width_of area) here.west in
-        let told = held.odd i j here in
         ap (λ (ms : List Mark). marks_right i j ms % 2 == 1) (is ∙ ap (λ r. set_marks words area r (width_of area)) (sym at))
-        ∙ ap (λ n. n == 1) (ap (λ n. n % 2) there ∙ told)
+        ∙ ap (λ n. n % 2 == 1) there
     odd i j here false differ =
         let none = set-off words area row i j (width_of area) differ in
         ap (λ (ms : List Mark). marks_right i j ms % 2 == 1) is ∙ ap (λ n. n % 2 == 1) none
 
 -- marks are held when all of their bits were changed
 pub held-all :
-    (area : Area) (marks rest : List Mark) (words : List ℕ) → HasBits area words → rest ≡ []
+    (area : Area) (marks rest : List Mark) (old words : List ℕ) → HasBits area words → rest ≡ []
     → ((i j : ℕ) → IsIn area i j
-    → (right_bits words area j (i - area.columns.from) (width_of area) + marks_right i j rest) % 2
-    ≡ marks_right i j marks % 2)
-    → HoldMarks area marks words
-held-all area marks rest words room done told = record {
+    → (bits_right i j area words + marks_right i j rest) % 2 ≡ (bits_right i j area old + marks_right i j marks) % 2)
+    → HoldMarks area marks old words
+held-all area marks rest old words room done told = record {
   room = room;
   odd = λ i j here.
       let none : marks_right i j rest ≡ 0 = ap (marks_right i j) done in

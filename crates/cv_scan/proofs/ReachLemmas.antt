@@ -1,5 +1,5 @@
 -- Reaches: how many numbers pass a test that falls, and how the tests of edges fall along a row.
-use Rattle.std.proofs.Common.{◌≡◌, ◌∙◌, sym, ap, refl, ℕ, zero, suc, ◌+◌, ◌<◌, ◌≤◌, nat_lt, ◌⊎◌, inl, inr, Bool, true, false, if◌then◌else◌, ℤ, pos, ◌-ℤ◌, ◌*ℤ◌, ◌≤ℤ◌, int_le, arith}
+use Rattle.std.proofs.Common.{◌≡◌, ◌∙◌, sym, ap, refl, ℕ, zero, suc, ◌+◌, ◌<◌, ◌≤◌, nat_lt, min, ◌⊎◌, inl, inr, Bool, true, false, if◌then◌else◌, [], ◌∷◌, ℤ, pos, ◌-ℤ◌, ◌*ℤ◌, ◌≤ℤ◌, int_le, arith}
 use borrow.Author.Differences.{up, down}
 use Rattle.std.proofs.lemmas.Int.{ints}
 use Rattle.std.proofs.lemmas.Bool.Decides.{nat_tests}
@@ -10,6 +10,7 @@ use Rattle.cv_geom.specs.Falls.{FallsAt}
 use Rattle.cv_geom.proofs.ProductLemmas.{mul-le-mulZ}
 use Rattle.cv_geom.proofs.CentreLemmas.{centres-rise}
 use Rattle.cv_scan.specs.Reaches.{passes, edge_reach}
+use Rattle.cv_scan.specs.Runs.{above}
 
 -- below n a test that holds at a number holds at those before it
 abbrev pub Falls : (ℕ → Bool) → ℕ → Type 0
@@ -126,24 +127,113 @@ edge-crosses v i j edge unit less =
     falls-passes
     (λ k. is_crossed (centre_of v k j) edge) v.w (edge-falls v j v.w (doubled edge.0) (doubled edge.1) unit) i less
 
--- an edge both of whose ends are low, or neither of which is, has no reach
-pub level-reach :
-    (v : PixelGrid) (j : ℕ) (a b : Position)
-    → is_low (centre_of v 0 j) (doubled a) ≡ is_low (centre_of v 0 j) (doubled b) → edge_reach v j (a, b) ≡ 0
-level-reach v j a b same =
-    passes-none (λ i. is_crossed (centre_of v i j) (a, b)) v.w
-    (λ i less.
-    level
-    (is_low (centre_of v 0 j) (doubled a))
-    (is_low (centre_of v 0 j) (doubled b))
-    (passes_right (centre_of v i j) (doubled a) (doubled b))
-    (passes_right (centre_of v i j) (doubled b) (doubled a))
-    same)
+-- a test falls at one number
+falls-once :
+    (test : ℕ → Bool) (low high s t : ℕ) → FallsAt test low high s → FallsAt test low high t → s ≡ t
+falls-once test low high s t first second = pick (nat_lt s t) (nat_lt t s) refl refl
   where
-    level :
-        (x y up down : Bool) → x ≡ y
-        → (if x then (if y then false else up) else (if y then down else false)) ≡ false
-    level true true up down same = refl
-    level true false up down same = cc
-    level false true up down same = cc
-    level false false up down same = refl
+    least : low ≤ s
+    least = first.low_in
+
+    under : low ≤ t
+    under = second.low_in
+
+    pick : (a b : Bool) → nat_lt s t ≡ a → nat_lt t s ≡ b → s ≡ t
+    pick true b before behind =
+        let most = second.high_in in
+        let less : s < t = grind (arith, nat_tests) in
+        let here : nat_lt s s ≡ nat_lt s t = sym (first.falls s least (omega arith)) ∙ second.falls s least (omega arith) in
+        absurd (grind (arith, nat_tests))
+    pick false true before behind =
+        let most = first.high_in in
+        let less : t < s = grind (arith, nat_tests) in
+        let here : nat_lt t t ≡ nat_lt t s = sym (second.falls t under (omega arith)) ∙ first.falls t under (omega arith) in
+        absurd (grind (arith, nat_tests))
+    pick false false before behind = grind (arith, nat_tests)
+
+-- that of an edge along a whole row is its reach
+pub reach-is :
+    (v : PixelGrid) (j t : ℕ) (edge : Position × Position) → pos 1 ≤ℤ v.u
+    → FallsAt (λ i. is_crossed (centre_of v i j) edge) 0 v.w t → t ≡ edge_reach v j edge
+reach-is v j t edge unit found =
+    let test : ℕ → Bool = λ i. is_crossed (centre_of v i j) edge in
+    falls-once test 0 v.w t (edge_reach v j edge) found
+    (falls-at test v.w (edge-falls v j v.w (doubled edge.0) (doubled edge.1) unit))
+
+-- and among some columns goes as far beyond the first as its reach does, to their end
+pub reach-above :
+    (v : PixelGrid) (j from to t : ℕ) (edge : Position × Position) → pos 1 ≤ℤ v.u → from ≤ to → to ≤ v.w
+    → FallsAt (λ i. is_crossed (centre_of v i j) edge) from to t
+    → above from t ≡ above from (min (edge_reach v j edge) to)
+reach-above v j from to t edge unit order within found = pick (nat_lt from (edge_reach v j edge)) refl
+  where
+    test : ℕ → Bool
+    test i = is_crossed (centre_of v i j) edge
+
+    whole : ℕ
+    whole = edge_reach v j edge
+
+    pick : (b : Bool) → nat_lt from (edge_reach v j edge) ≡ b → above from t ≡ above from (min (edge_reach v j edge) to)
+    pick true beyond =
+        let less : from < whole = grind (arith, nat_tests) in
+        ap (above from)
+        (falls-once test from to t (min whole to) found
+        (record {
+          low_in = omega arith;
+          high_in = omega arith;
+          falls = λ i west east. edge-crosses v i j edge unit (omega arith) ∙ least i (nat_lt i whole) east refl;
+        }))
+      where
+        least : (i : ℕ) (b : Bool) → i < to → nat_lt i whole ≡ b → nat_lt i whole ≡ nat_lt i (min whole to)
+        least i true east is = let yes : nat_lt i (min whole to) ≡ true = grind (arith, nat_tests) in is ∙ sym yes
+        least i false east is = let no : nat_lt i (min whole to) ≡ false = grind (arith, nat_tests) in is ∙ sym no
+    pick false beyond =
+        let most : whole ≤ from = grind (arith, nat_tests) in
+        let first : t ≤ from = at (nat_lt from to) refl in
+        let none : nat_lt from t ≡ false = grind (arith, nat_tests) in
+        let nor : nat_lt from (min whole to) ≡ false = grind (arith, nat_tests) in
+        ap (λ (b : Bool). if b then t ∷ [] else []) none
+        ∙ ap (λ (b : Bool). if b then min whole to ∷ [] else []) (sym nor)
+      where
+        at : (b : Bool) → nat_lt from to ≡ b → t ≤ from
+        at true some =
+            let less : from < to = grind (arith, nat_tests) in
+            let here = sym (found.falls from (omega arith) less) ∙ edge-crosses v from j edge unit (omega arith) in
+            grind (arith, nat_tests)
+        at false none =
+            let high = found.high_in in
+            let empty : to ≤ from = grind (arith, nat_tests) in omega arith
+
+-- an edge is crossed in both directions alike
+pub crossed-turned : (p a b : Position) → is_crossed p (a, b) ≡ is_crossed p (b, a)
+crossed-turned p a b =
+    turned
+    (is_low p (doubled a)) (is_low p (doubled b)) (passes_right p (doubled a) (doubled b))
+    (passes_right p (doubled b) (doubled a))
+  where
+    turned :
+        (x y up down : Bool)
+        → (if x then (if y then false else up) else (if y then down else false))
+        ≡ (if y then (if x then false else down) else (if x then up else false))
+    turned true true up down = refl
+    turned true false up down = refl
+    turned false true up down = refl
+    turned false false up down = refl
+
+-- a test falls where another does that answers the same
+pub falls-alike :
+    (p q : ℕ → Bool) (low high t : ℕ) → ((i : ℕ) → q i ≡ p i) → FallsAt p low high t → FallsAt q low high t
+falls-alike p q low high t alike found = record {
+  low_in = found.low_in;
+  high_in = found.high_in;
+  falls = λ i from below. alike i ∙ found.falls i from below;
+}
+
+-- a test that fails at all numbers falls at the first
+pub falls-first :
+    (p : ℕ → Bool) (low high : ℕ) → low ≤ high → ((i : ℕ) → p i ≡ false) → FallsAt p low high low
+falls-first p low high order none = record {
+  low_in = omega arith;
+  high_in = order;
+  falls = λ i from below. let no : nat_lt i low ≡ false = grind (arith, nat_tests) in none i ∙ sym no;
+}

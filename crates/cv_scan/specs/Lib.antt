@@ -4,3 +4,4 @@ pub mod Runs
 pub mod Marks
 pub mod Fills
 pub mod Planes
+pub mod Held

@@ -1,14 +1,13 @@
 -- Marks: how far crossings of edges with the heights of rows reach, and the runs that lie between them.
 --
 -- Source: this project's own form of the parity rule for polygons.
-use Rattle.std.specs.Prelude.{ℕ, ◌+◌, ◌≡◌, ◌<◌, ◌≤◌, ◌==◌, nat_lt, Bool, true, false, not, int_lt, ◌&&◌, if◌then◌else◌, ◌⊎◌, List, [], ◌∷◌, ◌++◌, count_by, All, Option, Some, None}
+use Rattle.std.specs.Prelude.{ℕ, ◌≡◌, ◌<◌, ◌≤◌, ◌==◌, nat_lt, Bool, true, false, not, int_lt, ◌&&◌, if◌then◌else◌, ◌⊎◌, List, [], ◌∷◌, ◌++◌, count_by, Option, Some, None}
 use Rattle.cv_model.specs.declared.span.Span.{Span}
 use Rattle.cv_model.specs.Positions.{Position, doubled}
 use Rattle.cv_model.specs.Polygons.{is_low}
 use Rattle.cv_model.specs.Views.{PixelGrid, centre_of}
 use Rattle.cv_geom.specs.declared.runs.Run.{Run}
 use Rattle.cv_geom.specs.declared.runs.Area.{Area}
-use Rattle.cv_geom.specs.Runs.{IsIn}
 use Rattle.cv_scan.specs.declared.marks.Mark.{Mark}
 
 -- pixel (i, j) lies left of a mark in its row
@@ -25,11 +24,6 @@ pub record MarkIn (area : Area) (mark : Mark) : Type 0 where
   pub south : mark.row < area.rows.end
   pub west : area.columns.from ≤ mark.column
   pub east : mark.column ≤ area.columns.end
-
--- marks that were put behind others: each pixel of the area lies left of so many of them
-pub record AddsMarks (crossed : ℕ → ℕ → ℕ) (area : Area) (old new : List Mark) : Type 0 where
-  pub within : All (MarkIn area) old → All (MarkIn area) new
-  pub counted : (i j : ℕ) → IsIn area i j → marks_right i j new ≡ marks_right i j old + crossed i j
 
 -- a mark lies before another in reading order, or is the same
 abbrev pub IsBefore : Mark → Mark → Type 0

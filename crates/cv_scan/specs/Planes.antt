@@ -44,8 +44,13 @@ right_bits words area row x zero = 0
 right_bits words area row x (suc n) =
     (if nat_le x n then bit_of words (first_of area row + n) else 0) + right_bits words area row x n
 
--- each pixel has an odd number of set bits from its own on exactly where it lies left of an odd number of marks
-pub record HoldMarks (area : Area) (marks : List Mark) (words : List ℕ) : Type 0 where
-  pub room : HasBits area words
+-- how many bits are set of the pixels of a row from a pixel on
+abbrev pub bits_right : ℕ → ℕ → Area → List ℕ → ℕ
+bits_right i j area words = right_bits words area j (i - area.columns.from) (width_of area)
+
+-- bits that were changed for marks: those set from a pixel on become as many more as it lies left of marks, or
+-- an even number more or fewer
+pub record HoldMarks (area : Area) (marks : List Mark) (old new : List ℕ) : Type 0 where
+  pub room : HasBits area new
   pub odd : (i j : ℕ) → IsIn area i j
-      → right_bits words area j (i - area.columns.from) (width_of area) % 2 ≡ marks_right i j marks % 2
+      → bits_right i j area new % 2 ≡ (bits_right i j area old + marks_right i j marks) % 2

@@ -7,7 +7,8 @@ ghost use Rattle.cv_model.specs.Views.{centre_of};
 ghost use Rattle.cv_scan.specs.Fills.{RunsHaveTheSpans};
 ghost use Rattle.cv_geom.specs.Runs.{AreRunsOf, IsArea, Adds, edges_of, rows_of};
 
-use crate::marks::{put_marks, put_runs};
+use crate::held::{begin, put_runs};
+use crate::marks::put_marks;
 use crate::scratch::Scratch;
 use cv_geom::{Area, Runs, Steps};
 use cv_model::{NoMemory, Polygon, View};
@@ -70,9 +71,9 @@ fn put_polygon<L: Ledger>(
         (Adds (λ i j. is_inside (centre_of view.now i j) polygon.now) area into.old into.new) }
     ensures cost { steps.new ≤ steps.old + length (flat_map edges polygon.now) * rows_of area }
 {
-    scratch.marks.clear();
-    put_marks(&mut scratch.marks, polygon, view, area, steps)?;
-    put_runs(&mut scratch.marks, &mut scratch.bits, area, into)?;
+    begin(scratch);
+    put_marks(scratch, polygon, view, area, steps)?;
+    put_runs(scratch, area, into)?;
     Ok(())
 }
 

@@ -6,10 +6,12 @@ ghost use Rattle.std.specs.List.{flat_map};
 ghost use Rattle.cv_model.specs.Polygons.{edges, crossings, is_crossed};
 ghost use Rattle.cv_model.specs.Views.{centre_of};
 ghost use Rattle.cv_geom.specs.Runs.{Adds, IsArea, rows_of};
-ghost use Rattle.cv_scan.specs.Marks.{AddsMarks, CrossesRows, IsBetween, MarkIn, marks_right, run_between, runs_from};
+ghost use Rattle.cv_scan.specs.Held.{AddsMarks, IsHeld};
+ghost use Rattle.cv_scan.specs.Marks.{CrossesRows, IsBetween, MarkIn, marks_right, run_between, runs_from};
 
 use crate::crossings::{column_of_crossing, columns_between, row_of};
-use crate::planes::{put_runs_by_bits, size};
+use crate::held::put_mark;
+use crate::scratch::Scratch;
 use cv_geom::{Area, Multiples, Run, Runs, Steps, doubled_sides};
 use cv_model::{NoMemory, Point, Polygon, Span, View};
 use std::sync::ledger::Ledger;
@@ -21,30 +23,31 @@ pub struct Mark {
     pub column: u32,
 }
 
-/// Puts the marks of a polygon's edges in an area behind the others.
+/// Puts the marks of a polygon's edges in an area with the others.
 pub fn put_marks<L: Ledger>(
-    marks: &mut Vec<Mark>,
+    scratch: &mut Scratch,
     polygon: &Polygon,
     view: &View,
     area: Area,
     steps: &mut Steps<L>,
 ) -> Result<(), NoMemory>
-    requires { IsArea view.now.w view.now.h area }
+    requires area { IsArea view.now.w view.now.h area }
+    requires held { IsHeld area scratch.old }
     ensures marked { OnOk result (AddsMarks
         (λ i j. crossings (centre_of view.now i j) (flat_map edges polygon.now)) area
-        marks.old.items marks.new.items) }
+        scratch.old scratch.new) }
     ensures cost { steps.new ≤ steps.old + length (flat_map edges polygon.now) * rows_of area }
 {
     let sides = doubled_sides(view);
     for ring in polygon.as_slice() {
-        put_ring(marks, ring.as_slice(), view, &sides, area, steps)?;
+        put_ring(scratch, ring.as_slice(), view, &sides, area, steps)?;
     }
     Ok(())
 }
 
-/// Puts the marks of a ring's edges in an area behind the others.
+/// Puts the marks of a ring's edges in an area with the others.
 fn put_ring<L: Ledger>(
-    marks: &mut Vec<Mark>,
+    scratch: &mut Scratch,
     points: &[Point],
     view: &View,
     sides: &Multiples,
@@ -53,9 +56,10 @@ fn put_ring<L: Ledger>(
 ) -> Result<(), NoMemory>
     requires sides { pos sides.now ≡ pos 2 *ℤ view.now.u }
     requires area { IsArea view.now.w view.now.h area }
+    requires held { IsHeld area scratch.old }
     ensures marked { OnOk result (AddsMarks
         (λ i j. crossings (centre_of view.now i j) (edges points.now)) area
-        marks.old.items marks.new.items) }
+        scratch.old scratch.new) }
     ensures cost { steps.new ≤ steps.old + length (edges points.now) * rows_of area }
 {
     let Some(last) = points.last() else {
@@ -69,17 +73,17 @@ fn put_ring<L: Ledger>(
             from: row.min(row_before),
             end: row.max(row_before),
         };
-        put_edge(marks, before, *point, view, sides, area, rows, steps)?;
+        put_edge(scratch, before, *point, view, sides, area, rows, steps)?;
         before = *point;
         row_before = row;
     }
     Ok(())
 }
 
-/// Puts the marks of an edge that crosses the heights of some rows and of no others of an area behind the
+/// Puts the marks of an edge that crosses the heights of some rows and of no others of an area with the
 /// others.
 fn put_edge<L: Ledger>(
-    marks: &mut Vec<Mark>,
+    scratch: &mut Scratch,
     a: Point,
     b: Point,
     view: &View,
@@ -90,10 +94,11 @@ fn put_edge<L: Ledger>(
 ) -> Result<(), NoMemory>
     requires sides { pos sides.now ≡ pos 2 *ℤ view.now.u }
     requires area { IsArea view.now.w view.now.h area }
+    requires held { IsHeld area scratch.old }
     requires crossed { CrossesRows view.now a b area rows }
     ensures marked { OnOk result (AddsMarks
         (λ i j. if is_crossed (centre_of view.now i j) (a, b) then 1 else 0) area
-        marks.old.items marks.new.items) }
+        scratch.old scratch.new) }
     ensures cost { steps.new ≤ steps.old + rows_of area }
 {
     // Few edges get further.
@@ -101,9 +106,9 @@ fn put_edge<L: Ledger>(
         return Ok(());
     }
     if is_upwards(a, b) {
-        put_up(marks, a, b, view, sides, area, rows, steps)
+        put_up(scratch, a, b, view, sides, area, rows, steps)
     } else {
-        put_up(marks, b, a, view, sides, area, rows, steps)
+        put_up(scratch, b, a, view, sides, area, rows, steps)
     }
 }
 
@@ -116,7 +121,7 @@ fn is_upwards(a: Point, b: Point) -> bool
 
 /// Puts the marks of an edge from its lower end up, as `put_edge`.
 fn put_up<L: Ledger>(
-    marks: &mut Vec<Mark>,
+    scratch: &mut Scratch,
     low: Point,
     high: Point,
     view: &View,
@@ -128,19 +133,20 @@ fn put_up<L: Ledger>(
     requires rises { low.y ≤ℤ high.y }
     requires sides { pos sides.now ≡ pos 2 *ℤ view.now.u }
     requires area { IsArea view.now.w view.now.h area }
+    requires held { IsHeld area scratch.old }
     requires crossed { CrossesRows view.now low high area rows }
     ensures marked { OnOk result (AddsMarks
         (λ i j. if is_crossed (centre_of view.now i j) (low, high) then 1 else 0) area
-        marks.old.items marks.new.items) }
+        scratch.old scratch.new) }
     ensures cost { steps.new ≤ steps.old + rows_of area }
 {
     let between = columns_between(low, high, view, sides, area.columns);
-    put_rows(marks, low, high, view, area, rows, between, steps)
+    put_rows(scratch, low, high, view, area, rows, between, steps)
 }
 
 /// Puts the marks of an edge from its lower end up, whose crossings lie between some columns, as `put_edge`.
 fn put_rows<L: Ledger>(
-    marks: &mut Vec<Mark>,
+    scratch: &mut Scratch,
     low: Point,
     high: Point,
     view: &View,
@@ -151,46 +157,25 @@ fn put_rows<L: Ledger>(
 ) -> Result<(), NoMemory>
     requires rises { low.y ≤ℤ high.y }
     requires area { IsArea view.now.w view.now.h area }
+    requires held { IsHeld area scratch.old }
     requires crossed { CrossesRows view.now low high area rows }
     requires between { IsBetween view.now low high area.columns between }
     ensures marked { OnOk result (AddsMarks
         (λ i j. if is_crossed (centre_of view.now i j) (low, high) then 1 else 0) area
-        marks.old.items marks.new.items) }
+        scratch.old scratch.new) }
     ensures cost { steps.new ≤ steps.old + rows_of area }
 {
     let _unit = view.u;
     for row in rows.from..rows.end {
         steps.tick();
         let column = column_of_crossing(low, high, view, row, between);
-        marks.push(Mark { row, column })?;
+        put_mark(scratch, area, Mark { row, column })?;
     }
     Ok(())
 }
 
-/// Puts the runs that lie left of an odd number of marks behind others.
-///
-/// Many marks are brought into order by a bit for each pixel, few are sorted.
-pub fn put_runs(
-    marks: &mut Vec<Mark>,
-    bits: &mut Vec<u64>,
-    area: Area,
-    into: &mut Runs,
-) -> Result<(), NoMemory>
-    requires columns { area.columns.from ≤ area.columns.end }
-    requires rows { area.rows.from ≤ area.rows.end }
-    requires marks { All (MarkIn area) marks.old.items }
-    ensures { OnOk result
-        (Adds (λ i j. marks_right i j marks.old.items % 2 == 1) area into.old into.new) }
-{
-    if size(area) / 16 < marks.len() {
-        put_runs_by_bits(marks, bits, area, into)
-    } else {
-        put_sorted_runs(marks, area, into)
-    }
-}
-
 /// Puts the runs that lie left of an odd number of marks behind others, by sorting them.
-fn put_sorted_runs(marks: &mut Vec<Mark>, area: Area, into: &mut Runs) -> Result<(), NoMemory>
+pub fn put_sorted_runs(marks: &mut Vec<Mark>, area: Area, into: &mut Runs) -> Result<(), NoMemory>
     requires { All (MarkIn area) marks.old.items }
     ensures { OnOk result
         (Adds (λ i j. marks_right i j marks.old.items % 2 == 1) area into.old into.new) }

@@ -1,32 +1,13 @@
 //! Many marks brought into order by a plane of one bit for each pixel.
 
-ghost use Rattle.std.specs.Prelude.{◌≡◌, ◌+◌, ◌-◌, ◌*◌, ◌≤◌, ◌<◌, ◌==◌, ◌%◌, ℕ, OnOk, length, All};
+ghost use Rattle.std.specs.Prelude.{◌≡◌, ◌+◌, ◌-◌, ◌*◌, ◌≤◌, ◌<◌, ◌==◌, ◌%◌, ◌⊎◌, ℕ, [], OnOk, length, All};
 ghost use Rattle.cv_geom.specs.Runs.{Adds, rows_of};
-ghost use Rattle.cv_scan.specs.Marks.{MarkIn, marks_right};
-ghost use Rattle.cv_scan.specs.Planes.{bit_of, toggled, width_of, first_of, HasBits, HoldMarks, set_marks};
+ghost use Rattle.cv_scan.specs.Marks.{MarkIn};
+ghost use Rattle.cv_scan.specs.Planes.{bit_of, bits_right, toggled, width_of, first_of, HasBits, HoldMarks, set_marks};
 
 use crate::marks::{Mark, put_pairs};
 use cv_geom::{Area, Runs};
 use cv_model::NoMemory;
-
-/// Puts the runs that lie left of an odd number of marks behind others, by a bit for each pixel of the area.
-/// The marks are used up.
-pub fn put_runs_by_bits(
-    marks: &mut Vec<Mark>,
-    bits: &mut Vec<u64>,
-    area: Area,
-    into: &mut Runs,
-) -> Result<(), NoMemory>
-    requires columns { area.columns.from ≤ area.columns.end }
-    requires rows { area.rows.from ≤ area.rows.end }
-    requires marks { All (MarkIn area) marks.old.items }
-    ensures { OnOk result
-        (Adds (λ i j. marks_right i j marks.old.items % 2 == 1) area into.old into.new) }
-{
-    clear(bits, area)?;
-    toggle_all(bits, marks, area);
-    put_bit_rows(bits, area, marks, into)
-}
 
 /// How many pixels an area has.
 pub fn size(area: Area) -> usize
@@ -37,6 +18,21 @@ pub fn size(area: Area) -> usize
     let rows = (area.rows.end - area.rows.from) as usize;
     let columns = (area.columns.end - area.columns.from) as usize;
     rows * columns
+}
+
+/// Makes a plane of an area none of whose bits is set, if there is none yet.
+pub fn have_plane(bits: &mut Vec<u64>, area: Area) -> Result<(), NoMemory>
+    requires columns { area.columns.from ≤ area.columns.end }
+    requires rows { area.rows.from ≤ area.rows.end }
+    requires plane { (bits.old.items ≡ []) ⊎ HasBits area bits.old.items }
+    ensures room { OnOk result (HasBits area bits.new.items) }
+    ensures same { OnOk result ((place : ℕ) → bit_of bits.new.items place ≡ bit_of bits.old.items place) }
+{
+    if bits.is_empty() {
+        clear(bits, area)
+    } else {
+        Ok(())
+    }
 }
 
 /// Makes a bit for each pixel of an area, none of which is set.
@@ -87,11 +83,10 @@ fn is_set(bits: &[u64], place: usize) -> bool
 }
 
 /// Changes the bit of the last pixel left of each mark, if there is one.
-fn toggle_all(bits: &mut Vec<u64>, marks: &[Mark], area: Area)
+pub fn toggle_all(bits: &mut Vec<u64>, marks: &[Mark], area: Area)
     requires marks { All (MarkIn area) marks.now }
     requires room { HasBits area bits.old.items }
-    requires clear { (place : ℕ) → bit_of bits.old.items place ≡ 0 }
-    ensures { HoldMarks area marks.now bits.new.items }
+    ensures { HoldMarks area marks.now bits.old.items bits.new.items }
 {
     for mark in marks {
         let Mark { row, column } = *mark;
@@ -101,8 +96,9 @@ fn toggle_all(bits: &mut Vec<u64>, marks: &[Mark], area: Area)
     }
 }
 
-/// Puts the runs of all rows of an area behind others, which end at each other set bit.
-fn put_bit_rows(
+/// Puts the runs of all rows of an area behind others, which end at each other set bit. The list holds the
+/// marks of a row.
+pub fn put_bit_rows(
     bits: &[u64],
     area: Area,
     marks: &mut Vec<Mark>,
@@ -110,9 +106,8 @@ fn put_bit_rows(
 ) -> Result<(), NoMemory>
     requires columns { area.columns.from ≤ area.columns.end }
     requires rows { area.rows.from ≤ area.rows.end }
-    requires held { HoldMarks area marks.old.items bits.now }
-    ensures { OnOk result
-        (Adds (λ i j. marks_right i j marks.old.items % 2 == 1) area into.old into.new) }
+    requires room { HasBits area bits.now }
+    ensures { OnOk result (Adds (λ i j. bits_right i j area bits.now % 2 == 1) area into.old into.new) }
 {
     for row in area.rows.from..area.rows.end {
         read_row(bits, area, row, marks)?;

@@ -1,15 +1,16 @@
 //! The spans of a row inside a polygon.
 
-ghost use Rattle.std.specs.Prelude.{◌≡◌, ◌+◌, ◌≤◌, ◌<◌, ℕ, ◌++◌, [], OnOk, OnErr, IfOk, length};
+ghost use Rattle.std.specs.Prelude.{◌≡◌, ◌+◌, ◌≤◌, ◌<◌, ℕ, ◌++◌, [], OnOk, OnErr, IfOk, length, min, pos, ◌*ℤ◌};
 ghost use Rattle.std.specs.List.{All, flat_map};
 ghost use Rattle.cv_model.specs.Polygons.{edges, is_inside};
 ghost use Rattle.cv_model.specs.Views.{centre_of};
 ghost use Rattle.cv_geom.specs.Spans.{AreRuns};
-ghost use Rattle.cv_scan.specs.Runs.{reaches_in, beyond, Rises, IsPaired, LiesWithin, padded};
+ghost use Rattle.cv_scan.specs.Reaches.{edge_reach};
+ghost use Rattle.cv_scan.specs.Runs.{above, reaches_in, beyond, Rises, IsPaired, LiesWithin, padded};
 
-use crate::reaches::reach;
+use crate::reaches::reach_in;
 use crate::runs::{joined, put};
-use cv_geom::Steps;
+use cv_geom::{Multiples, Steps, doubled_sides};
 use cv_model::{NoMemory, Point, Polygon, Span, Spans, View};
 use std::alloc::Global;
 use std::marker::Brand;
@@ -97,8 +98,9 @@ fn spans_between<L: Ledger>(
     ensures cost { steps.new ≤ steps.old + length (flat_map edges polygon.now) }
 {
     let _unit = view.u;
+    let sides = doubled_sides(view);
     let mut reaches = Vec::new(alloc);
-    put_polygon(&mut reaches, polygon, view, row, columns, steps)?;
+    put_polygon(&mut reaches, polygon, view, &sides, row, columns, steps)?;
     order(&mut reaches, columns)?;
     let spans = joined(alloc, columns.from, &reaches)?;
     Ok(spans)
@@ -109,17 +111,21 @@ fn put_polygon<L: Ledger>(
     reaches: &mut Vec<u32>,
     polygon: &Polygon,
     view: &View,
+    sides: &Multiples,
     row: u32,
     columns: Span,
     steps: &mut Steps<L>,
 ) -> Result<(), NoMemory>
-    requires { row < view.now.h }
+    requires sides { pos sides.now ≡ pos 2 *ℤ view.now.u }
+    requires row { row < view.now.h }
+    requires order { columns.from ≤ columns.end }
+    requires within { columns.end ≤ view.now.w }
     ensures reaches { OnOk result (reaches.new.items ≡ reaches.old.items
         ++ reaches_in view.now row columns.from columns.end (flat_map edges polygon.now)) }
     ensures cost { steps.new ≤ steps.old + length (flat_map edges polygon.now) }
 {
     for ring in polygon.as_slice() {
-        put_ring(reaches, ring.as_slice(), view, row, columns, steps)?;
+        put_ring(reaches, ring.as_slice(), view, sides, row, columns, steps)?;
     }
     Ok(())
 }
@@ -129,11 +135,15 @@ fn put_ring<L: Ledger>(
     reaches: &mut Vec<u32>,
     points: &[Point],
     view: &View,
+    sides: &Multiples,
     row: u32,
     columns: Span,
     steps: &mut Steps<L>,
 ) -> Result<(), NoMemory>
-    requires { row < view.now.h }
+    requires sides { pos sides.now ≡ pos 2 *ℤ view.now.u }
+    requires row { row < view.now.h }
+    requires order { columns.from ≤ columns.end }
+    requires within { columns.end ≤ view.now.w }
     ensures reaches { OnOk result (reaches.new.items
         ≡ reaches.old.items ++ reaches_in view.now row columns.from columns.end (edges points.now)) }
     ensures cost { steps.new ≤ steps.old + length (edges points.now) }
@@ -144,10 +154,32 @@ fn put_ring<L: Ledger>(
     let mut before = *last;
     for point in points {
         steps.tick();
-        let reach = reach(before, *point, view, row);
-        put(reaches, columns.from, reach.min(columns.end))?;
+        put_edge(reaches, before, *point, view, sides, row, columns)?;
         before = *point;
     }
+    Ok(())
+}
+
+/// Puts the reach of an edge behind the others, if it goes beyond the first column.
+fn put_edge(
+    reaches: &mut Vec<u32>,
+    a: Point,
+    b: Point,
+    view: &View,
+    sides: &Multiples,
+    row: u32,
+    columns: Span,
+) -> Result<(), NoMemory>
+    requires sides { pos sides.now ≡ pos 2 *ℤ view.now.u }
+    requires row { row < view.now.h }
+    requires order { columns.from ≤ columns.end }
+    requires within { columns.end ≤ view.now.w }
+    ensures { OnOk result (reaches.new.items ≡ reaches.old.items
+        ++ above columns.from (min (edge_reach view.now row (a, b)) columns.end)) }
+{
+    let _unit = view.u;
+    let column = reach_in(a, b, view, sides, row, columns);
+    put(reaches, columns.from, column)?;
     Ok(())
 }
 

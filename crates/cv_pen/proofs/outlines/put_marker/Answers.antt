@@ -4,8 +4,8 @@ use Rattle.cv_model.specs.Markers.{is_marked}
 use Rattle.cv_model.specs.Pictures.{half_side}
 use Rattle.cv_model.specs.Views.{centre_of}
 use Rattle.cv_geom.proofs.RunLemmas.{adds-row}
-use Rattle.cv_pen.proofs.RowLemmas.{adds-before, adds-behind}
-use Rattle.cv_pen.proofs.RowLemmas.{marked-none}
+use Rattle.cv_pen.proofs.BetweenLemmas.{runs-widen}
+use Rattle.cv_pen.proofs.RowLemmas.{adds-before, adds-behind, marked-none, marked-beside}
 use Rattle.cv_pen.proofs.outlines.put_marker.Goals as goal
 
 pub loop-row-init : goal.loop-row-init
@@ -31,16 +31,28 @@ loop-row-preserved g c =
     let area = c.args.area in
     let row = c.loop-row.row in
     let told = c.loop-row.invariant in
+    let r = half_side v c.args.size in
+    let by = c.columns_by-columns.result in
+    let some = rw c.half_side-r.ensures.value at c.half_side-r.ensures.radius.0 in
+    let fits : FitsSigned w64 c.half_side-r.result = search rules in
+    let r_is = to_z-of_z w64 c.half_side-r.result fits in
+    let run = rw (r_is, c.half_side-r.ensures.value) at c.marker_between-run.ensures in
+    let outside = rw (r_is, c.half_side-r.ensures.value) at c.columns_by-columns.ensures.outside in
     let less : row < area.rows.end =
     omega (arith, c.loop-row-test.true, c.loop-row.auto.row-end, c.rows_by-rows.ensures.end) in
     record {
       north = omega (arith, told.north);
       order = omega (arith, c.loop-row-test.true);
       added =
-          adds-row (λ i j. is_marked c.args.shape (half_side v c.args.size) (centre_of v i j) c.args.at) area row
-          (option_to_list c.marker_in-run.result) c.args.into.now c.loop-row.into c.put_span.new.self told.north less
-          c.marker_in-run.ensures.run told.added c.in_ok-put_span.ensures.ok;
-      cost = omega (arith, told.cost, c.marker_in-run.ensures.cost, c.loop-row-test.true);
+          adds-row (λ i j. is_marked c.args.shape r (centre_of v i j) c.args.at) area row
+          (option_to_list c.marker_between-run.result) c.args.into.now c.loop-row.into c.put_span.new.self told.north less
+          (runs-widen (λ i. is_marked c.args.shape r (centre_of v i row) c.args.at) by.from by.end area.columns.from
+          area.columns.end (option_to_list c.marker_between-run.result) c.columns_by-columns.ensures.from
+          c.columns_by-columns.ensures.end
+          (λ i west east out. marked-beside c.args.shape r (centre_of v i row) c.args.at some (outside i west east out))
+          run)
+          told.added c.in_ok-put_span.ensures.ok;
+      cost = omega (arith, told.cost, c.tick.ensures, c.loop-row-test.true);
     }
 
 pub returns-clause-added : goal.returns-clause-added

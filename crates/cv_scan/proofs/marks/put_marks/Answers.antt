@@ -6,7 +6,8 @@ use Rattle.cv_model.specs.Positions.{Position}
 use Rattle.cv_model.specs.Polygons.{edges, crossings, is_crossed}
 use Rattle.cv_model.specs.Views.{centre_of}
 use Rattle.cv_geom.specs.Runs.{rows_of}
-use Rattle.cv_scan.proofs.MarkLemmas.{still-step, still-done, one-paid}
+use Rattle.cv_scan.proofs.HeldLemmas.{still-step, still-done}
+use Rattle.cv_scan.proofs.MarkLemmas.{one-paid}
 use Rattle.cv_scan.proofs.marks.put_marks.Goals as goal
 
 pub loop-ring-preserved : goal.loop-ring-preserved
@@ -25,8 +26,8 @@ loop-ring-preserved g c =
           (λ i j. crossings (centre_of v i j) (flat_map edges xs))
           (λ i j. crossings (centre_of v i j) (edges item))
           (λ i j. crossings (centre_of v i j) (flat_map edges (drop at xs)))
-          (λ i j. crossings (centre_of v i j) (flat_map edges (drop (at + 1) xs))) c.args.area c.args.marks.now.items
-          c.loop-ring.marks.items c.put_ring.new.marks.items
+          (λ i j. crossings (centre_of v i j) (flat_map edges (drop (at + 1) xs))) c.args.area c.args.scratch.now
+          c.loop-ring.scratch c.put_ring.new.scratch
           (λ i j.
           ap (λ ps. crossings (centre_of v i j) (flat_map edges ps)) is
           ∙ sum_by-append (λ (e : Position × Position). cond (is_crossed (centre_of v i j) e) 1 0) (edges item)
@@ -46,8 +47,8 @@ returns-clause-marked g c =
     let at = c.loop-ring.ring-index in
     let told =
     still-done (λ i j. crossings (centre_of v i j) (flat_map edges xs))
-    (λ i j. crossings (centre_of v i j) (flat_map edges (drop at xs))) c.args.area c.args.marks.now.items
-    c.loop-ring.marks.items
+    (λ i j. crossings (centre_of v i j) (flat_map edges (drop at xs))) c.args.area c.args.scratch.now
+    c.loop-ring.scratch
     (λ i j.
     at_drop_all (λ ps. crossings (centre_of v i j) (flat_map edges ps)) xs at
     (omega (arith, c.loop-ring-test.false, c.loop-ring.auto.ring-index-end)))

@@ -6,7 +6,8 @@ use Rattle.cv_model.specs.Polygons.{edges, edges_from, crossings, is_crossed}
 use Rattle.cv_model.specs.Views.{centre_of}
 use Rattle.cv_geom.specs.Runs.{rows_of}
 use Rattle.cv_geom.proofs.CrossingLemmas.{edges-last}
-use Rattle.cv_scan.proofs.MarkLemmas.{still-start, still-step, still-done, to_count, one-paid}
+use Rattle.cv_scan.proofs.HeldLemmas.{still-start, still-step, still-done}
+use Rattle.cv_scan.proofs.MarkLemmas.{to_count, one-paid}
 use Rattle.cv_scan.proofs.marks.put_ring.Goals as goal
 
 pub loop-point-init : goal.loop-point-init
@@ -20,8 +21,8 @@ loop-point-init g c =
       falls = c.row_of-row_before.ensures;
       marked =
           still-start (λ i j. crossings (centre_of v i j) (edges xs))
-          (λ i j. crossings (centre_of v i j) (edges_from c.in-Some.last.now xs)) c.args.area c.args.marks.now.items
-          (λ i j. ap (crossings (centre_of v i j)) (sym ring));
+          (λ i j. crossings (centre_of v i j) (edges_from c.in-Some.last.now xs)) c.args.area c.args.scratch.now
+          c.requires.held (λ i j. ap (crossings (centre_of v i j)) (sym ring));
       cost = omega arith;
     }
 
@@ -43,8 +44,8 @@ loop-point-preserved g c =
           (λ i j. crossings (centre_of v i j) (edges xs))
           (λ i j. to_count (is_crossed (centre_of v i j) (before, item)))
           (λ i j. crossings (centre_of v i j) (edges_from before (drop at xs)))
-          (λ i j. crossings (centre_of v i j) (edges_from item (drop (at + 1) xs))) c.args.area c.args.marks.now.items
-          c.loop-point.marks.items c.put_edge.new.marks.items
+          (λ i j. crossings (centre_of v i j) (edges_from item (drop (at + 1) xs))) c.args.area c.args.scratch.now
+          c.loop-point.scratch c.put_edge.new.scratch
           (λ i j.
           ap (λ ps. crossings (centre_of v i j) (edges_from before ps)) is
           ∙ sum_by-cons (λ (e : Position × Position). cond (is_crossed (centre_of v i j) e) 1 0) (before, item)
@@ -64,7 +65,7 @@ returns-clause-marked g c =
     let at = c.loop-point.point-index in
     still-done (λ i j. crossings (centre_of v i j) (edges xs))
     (λ i j. crossings (centre_of v i j) (edges_from c.loop-point.before (drop at xs))) c.args.area
-    c.args.marks.now.items c.loop-point.marks.items
+    c.args.scratch.now c.loop-point.scratch
     (λ i j.
     at_drop_all (λ ps. crossings (centre_of v i j) (edges_from c.loop-point.before ps)) xs at
     (omega (arith, c.loop-point-test.false, c.loop-point.auto.point-index-end)))

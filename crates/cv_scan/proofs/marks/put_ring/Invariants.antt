@@ -4,7 +4,7 @@ use Rattle.cv_model.specs.Polygons.{edges, edges_from, crossings, is_low}
 use Rattle.cv_model.specs.Views.{centre_of}
 use Rattle.cv_geom.specs.Falls.{FallsAt}
 use Rattle.cv_geom.specs.Runs.{rows_of}
-use Rattle.cv_scan.proofs.MarkLemmas.{StillMarks}
+use Rattle.cv_scan.proofs.HeldLemmas.{StillMarks}
 use Rattle.cv_scan.proofs.marks.put_ring.Given as goal
 
 -- the edges still to come make the marks whole, and their steps may still be paid
@@ -15,7 +15,7 @@ invariant-loop-point g l = record {
   marked :
       StillMarks (λ i j. crossings (centre_of l.view i j) (edges l.points))
       (λ i j. crossings (centre_of l.view i j) (edges_from l.before (drop l.point-index l.points))) l.area
-      l.fn.marks.items l.marks.items;
+      l.fn.scratch l.scratch;
   cost :
       l.steps + length (edges_from l.before (drop l.point-index l.points)) * rows_of l.area
       ≤ l.fn.steps + length (edges l.points) * rows_of l.area;

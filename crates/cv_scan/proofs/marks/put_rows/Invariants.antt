@@ -1,7 +1,7 @@
 use Rattle.std.proofs.Common.{◌≤◌, ◌+◌, ◌-◌, nat_lt, if◌then◌else◌}
 use Rattle.cv_model.specs.Polygons.{is_crossed}
 use Rattle.cv_model.specs.Views.{centre_of}
-use Rattle.cv_scan.specs.Marks.{AddsMarks}
+use Rattle.cv_scan.specs.Held.{AddsMarks}
 use Rattle.cv_scan.proofs.marks.put_rows.Given as goal
 
 -- the marks of the rows so far were put, and the steps of the others may still be paid
@@ -11,6 +11,6 @@ invariant-loop-row g l = record {
   marked :
       AddsMarks
       (λ i j. if nat_lt j l.row then (if is_crossed (centre_of l.view i j) (l.low, l.high) then 1 else 0) else 0) l.fn.area
-      l.fn.marks.items l.marks.items;
+      l.fn.scratch l.scratch;
   cost : l.steps + (l.fn.rows.end - l.row) ≤ l.fn.steps + (l.fn.rows.end - l.fn.rows.from);
 }

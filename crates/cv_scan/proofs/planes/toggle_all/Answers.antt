@@ -1,22 +1,15 @@
-use Rattle.std.proofs.Common.{◌≡◌, ◌∙◌, ap, ◌+◌, ◌-◌, ◌*◌, ◌<◌, ◌∷◌, drop, length, get_or, arith}
+use Rattle.std.proofs.Common.{◌≡◌, ◌∙◌, ap, refl, ◌+◌, ◌-◌, ◌*◌, ◌<◌, ◌∷◌, drop, length, get_or, arith}
 use Rattle.std.proofs.lemmas.List.{drop_more, at_drop_all}
 use Rattle.std.proofs.lemmas.List.Elements.{All-head, All-tail}
 use Rattle.cv_scan.specs.declared.marks.Mark.{Mark}
 use Rattle.cv_scan.specs.Marks.{MarkIn}
-use Rattle.cv_scan.specs.Planes.{toggled, first_of, width_of}
-use Rattle.cv_scan.proofs.PlaneLemmas.{clear-none, toggled-odd, skipped-odd, toggled-room, held-all}
+use Rattle.cv_scan.specs.Planes.{toggled, first_of}
+use Rattle.cv_scan.proofs.PlaneLemmas.{toggled-odd, skipped-odd, toggled-room, held-all}
 use Rattle.cv_scan.proofs.planes.toggle_all.Goals as goal
 use Rattle.cv_scan.proofs.planes.toggle_all.Goals.{then-area-column, else-area-column}
 
 pub loop-mark-init : goal.loop-mark-init
-loop-mark-init c = record {
-  within = c.requires.marks;
-  room = c.requires.room;
-  odd = λ i j here.
-      let none =
-      clear-none c.args.bits.now.items c.args.area j (i - c.args.area.columns.from) (width_of c.args.area) c.requires.clear in
-      omega arith;
-}
+loop-mark-init c = record { within = c.requires.marks; room = c.requires.room; odd = λ i j here. refl }
 
 pub loop-mark-preserved : goal.loop-mark-preserved
 loop-mark-preserved c =
@@ -63,6 +56,6 @@ pub returns : goal.returns
 returns c =
     let xs = c.args.marks.now in
     let at = c.loop-mark.mark-index in
-    held-all c.args.area xs (drop at xs) c.loop-mark.bits.items c.loop-mark.invariant.room
+    held-all c.args.area xs (drop at xs) c.args.bits.now.items c.loop-mark.bits.items c.loop-mark.invariant.room
     (at_drop_all (λ ms. ms) xs at (omega (arith, c.loop-mark-test.false, c.loop-mark.auto.mark-index-end)))
     c.loop-mark.invariant.odd

@@ -1,10 +1,11 @@
-use Rattle.std.proofs.Common.{◌≡◌, ◌∙◌, sym, arith}
-use Rattle.cv_scan.proofs.ReachLemmas.{level-reach}
+use Rattle.std.proofs.Common.{pos, ◌≤ℤ◌, ap}
+use Rattle.cv_model.specs.Views.{PixelGrid}
+use Rattle.cv_scan.proofs.ReachLemmas.{reach-is}
 use Rattle.cv_scan.proofs.reaches.reach.Goals as goal
 
-pub returns-then-low_a-is_low : goal.returns-then-low_a-is_low
-returns-then-low_a-is_low c =
-    let low_a = rw c.centre-p.ensures at c.is_low-low_a.ensures in
-    let low_b = rw c.centre-p.ensures at c.is_low.ensures in
-    let same : c.is_low-low_a.result ≡ c.is_low.result = grind arith in
-    sym (level-reach c.args.view.now c.args.row c.args.a c.args.b (sym low_a ∙ same ∙ low_b))
+pub returns : goal.returns
+returns c =
+    let v = c.args.view.now in
+    let unit : pos 1 ≤ℤ v.u = rw (ap (λ (g : PixelGrid). g.u) c.view.view_is) at c.view.invariant.unit in
+    let width = ap (λ (g : PixelGrid). g.w) c.view.view_is in
+    reach-is v c.args.row c.reach_in.result (c.args.a, c.args.b) unit (rw width at c.reach_in.ensures)

@@ -1,0 +1,22 @@
+use Rattle.std.proofs.Common.{◌≡◌, pos, ◌+ℤ◌, ◌-ℤ◌, w64, FitsSigned, rules, arith}
+use Rattle.std.specs.Int.{int_max, int_min}
+use Rattle.std.proofs.lemmas.Int.{to_z-of_z}
+use Rattle.cv_model.specs.Positions.{doubled}
+use Rattle.cv_pen.proofs.RowLemmas.{rows-out, parted}
+use Rattle.cv_pen.proofs.boxes.rows_by.Goals as goal
+
+pub returns-clause-outside : goal.returns-clause-outside
+returns-clause-outside c = λ k west east outside.
+    let a = doubled c.args.a in
+    let b = doubled c.args.b in
+    let behind : c.place_behind.result ≡ int_max a.y b.y +ℤ c.args.r +ℤ pos 1 = search rules in
+    let before : c.place_before.result ≡ int_min a.y b.y -ℤ c.args.r = search rules in
+    let behind_fits : FitsSigned w64 c.place_behind.result = search rules in
+    let before_fits : FitsSigned w64 c.place_before.result = search rules in
+    let behind_is = to_z-of_z w64 c.place_behind.result behind_fits in
+    let before_is = to_z-of_z w64 c.place_before.result before_fits in
+    rows-out c.args.view.now c.args.r a.y b.y c.place_behind.result c.place_before.result
+    c.row_under-first.result c.row_under-end.result k behind before (rw behind_is at c.row_under-first.ensures)
+    (rw before_is at c.row_under-end.ensures) (omega (arith, c.requires.within))
+    (parted c.args.rows.from c.args.rows.end c.kept.result.from c.kept.result.end c.row_under-first.result
+    c.row_under-end.result k c.kept.ensures.before c.kept.ensures.behind west east outside)

@@ -1,0 +1,249 @@
+-- What a scan holds: marks that are put one after the other, in a list and in a plane.
+use Rattle.std.proofs.Common.{◌≡◌, ◌∙◌, sym, ap, refl, ℕ, ◌+◌, ◌-◌, ◌%◌, ◌<◌, ◌≤◌, nat_lt, ◌==◌, inl, inr, Bool, true, false, length, cond, ◌&&◌, ◌||◌, if◌then◌else◌, List, [], ◌∷◌, ◌++◌, arith}
+use Rattle.std.proofs.lemmas.Bool.Decides.{nat_tests}
+use Rattle.std.proofs.lemmas.List.Elements.{All-nil, All-cons, All-append}
+use Rattle.cv_geom.specs.Falls.{FallsAt}
+use Rattle.cv_model.specs.Positions.{Position, doubled}
+use Rattle.cv_model.specs.Views.{PixelGrid, centre_of}
+use Rattle.cv_model.specs.Polygons.{is_low, is_crossed}
+use Rattle.cv_geom.specs.declared.runs.Run.{Run}
+use Rattle.cv_geom.specs.declared.runs.Area.{Area}
+use Rattle.cv_geom.specs.Runs.{is_on_any, IsIn, Adds}
+use Rattle.cv_scan.specs.declared.marks.Mark.{Mark}
+use Rattle.cv_scan.specs.declared.scratch.Scratch.{Scratch}
+use Rattle.cv_scan.specs.Marks.{is_right, marks_right, MarkIn}
+use Rattle.cv_scan.specs.Planes.{HoldMarks, bit_of, bits_right, width_of}
+use Rattle.cv_scan.specs.Held.{AddsMarks, IsHeld, held_right}
+use Rattle.cv_scan.proofs.MarkLemmas.{level-crossed, right-append, right-cons, to_count}
+use Rattle.cv_scan.proofs.PlaneLemmas.{empty-none, right-same}
+
+-- ---- marks that are put one after the other
+
+-- what is still to be marked makes what was marked whole
+pub record StillMarks (crossed rest : ℕ → ℕ → ℕ) (area : Area) (old now : Scratch) : Type 0 where
+  pub held : IsHeld area now
+  pub counted : (i j : ℕ) → IsIn area i j
+      → (held_right i j area now + rest i j) % 2 ≡ (held_right i j area old + crossed i j) % 2
+
+pub still-start :
+    (crossed rest : ℕ → ℕ → ℕ) (area : Area) (s : Scratch) → IsHeld area s → ((i j : ℕ) → rest i j ≡ crossed i j)
+    → StillMarks crossed rest area s s
+still-start crossed rest area s held same = record {
+  held = held;
+  counted = λ i j is. ap (λ n. (held_right i j area s + n) % 2) (same i j);
+}
+
+pub still-done :
+    (crossed rest : ℕ → ℕ → ℕ) (area : Area) (old now : Scratch) → ((i j : ℕ) → rest i j ≡ 0)
+    → StillMarks crossed rest area old now → AddsMarks crossed area old now
+still-done crossed rest area old now none told = record {
+  held = told.held;
+  counted = λ i j is. let no = none i j in let here = told.counted i j is in omega arith;
+}
+
+pub still-step :
+    (crossed here rest later : ℕ → ℕ → ℕ) (area : Area) (old now new : Scratch)
+    → ((i j : ℕ) → rest i j ≡ here i j + later i j) → StillMarks crossed rest area old now
+    → AddsMarks here area now new → StillMarks crossed later area old new
+still-step crossed here rest later area old now new split told added = record {
+  held = added.held;
+  counted = λ i j is.
+      let parts = split i j in
+      let before = told.counted i j is in
+      let more = added.counted i j is in
+      omega arith;
+}
+
+-- ---- a mark more, and the list in the plane
+
+-- nothing is put
+pub adds-none : (area : Area) (s : Scratch) → IsHeld area s → AddsMarks (λ i j. 0) area s s
+adds-none area s held = record { held = held; counted = λ i j is. ap (λ n. n % 2) (zero-more (held_right i j area s)) }
+  where
+    zero-more : (n : ℕ) → n ≡ n + 0
+    zero-more n = omega arith
+
+-- a mark is put in the list, once there is room
+pub mark-put :
+    (area : Area) (mark : Mark) (old now new : Scratch) → MarkIn area mark → AddsMarks (λ i j. 0) area old now
+    → new.marks.items ≡ now.marks.items ++ mark ∷ [] → new.bits.items ≡ now.bits.items
+    → AddsMarks (λ i j. if is_right i j mark then 1 else 0) area old new
+mark-put area mark old now new here_in room put same = record {
+  held = record {
+    within =
+        rw put
+        (All-append (MarkIn area) now.marks.items (mark ∷ []) room.held.within
+        (All-cons (MarkIn area) mark [] here_in (All-nil (MarkIn area))));
+    room = rw same room.held.room;
+  };
+  counted = λ i j is.
+      let split = ap (marks_right i j) put ∙ right-append i j now.marks.items (mark ∷ []) in
+      let one = right-cons i j mark [] in
+      let bits = ap (bits_right i j area) same in
+      let before = room.counted i j is in
+      let here = counts (is_right i j mark) in
+      omega arith;
+}
+  where
+    counts : (b : Bool) → ◌≡◌ {A = ℕ} (cond b 1 0) (if b then 1 else 0)
+    counts true = refl
+    counts false = refl
+
+-- the marks of the list are brought into the plane
+pub list-emptied :
+    (area : Area) (old new : Scratch) (plane : List ℕ) → ((place : ℕ) → bit_of plane place ≡ bit_of old.bits.items place)
+    → HoldMarks area old.marks.items plane new.bits.items → new.marks.items ≡ []
+    → AddsMarks (λ i j. 0) area old new
+list-emptied area old new plane same changed none = record {
+  held = record { within = rw none (All-nil (MarkIn area)); room = inr changed.room };
+  counted = λ i j is.
+      let odd = changed.odd i j is in
+      let bits = right-same plane old.bits.items area j (i - area.columns.from) (width_of area) same in
+      let empty = ap (marks_right i j) none in
+      omega arith;
+}
+
+-- ---- the marks of an edge, row by row
+
+plus-zero : (n k : ℕ) → k ≡ 0 → n % 2 ≡ (n + k) % 2
+plus-zero n k none = ap (λ m. m % 2) (omega arith)
+
+-- one row more
+pub marks-row :
+    (v : PixelGrid) (a b : Position) (area : Area) (row column : ℕ) (first old new : Scratch)
+    → FallsAt (λ i. is_crossed (centre_of v i row) (a, b)) area.columns.from area.columns.end column
+    → AddsMarks (λ i j. if nat_lt j row then (if is_crossed (centre_of v i j) (a, b) then 1 else 0) else 0) area first old
+    → AddsMarks (λ i j. if is_right i j (record { row = row; column = column }) then 1 else 0) area old new
+    → AddsMarks (λ i j. if nat_lt j (row + 1) then (if is_crossed (centre_of v i j) (a, b) then 1 else 0) else 0) area first new
+marks-row v a b area row column first old new falls before added = record {
+  held = added.held;
+  counted = λ i j here.
+      let told = before.counted i j here in
+      let more = added.counted i j here in
+      let crossed : is_crossed (centre_of v i row) (a, b) ≡ nat_lt i column = falls.falls i here.west here.east in
+      let step = by-row i j (j == row) (nat_lt j row) refl refl crossed in
+      omega arith;
+}
+  where
+    by-row :
+        (i j : ℕ) (here before : Bool) → (j == row) ≡ here → nat_lt j row ≡ before
+        → is_crossed (centre_of v i row) (a, b) ≡ nat_lt i column
+        → (if nat_lt j (row + 1) then (if is_crossed (centre_of v i j) (a, b) then 1 else 0) else 0)
+        ≡ (if before then (if is_crossed (centre_of v i j) (a, b) then 1 else 0) else 0)
+        + (if here && nat_lt i column then 1 else 0)
+    by-row i j true true same less crossed = absurd (grind (arith, nat_tests))
+    by-row i j true false same less crossed =
+        let at : j ≡ row = grind (arith, nat_tests) in
+        let more : nat_lt j (row + 1) ≡ true = grind (arith, nat_tests) in
+        let told : is_crossed (centre_of v i j) (a, b) ≡ nat_lt i column =
+        ap (λ n. is_crossed (centre_of v i n) (a, b)) at ∙ crossed in
+        rw (more, told) (plus-none (nat_lt i column))
+      where
+        plus-none : (b : Bool) → (if b then 1 else 0) ≡ 0 + (if b then 1 else 0)
+        plus-none true = omega arith
+        plus-none false = omega arith
+    by-row i j false true same less crossed =
+        let more : nat_lt j (row + 1) ≡ true = grind (arith, nat_tests) in
+        rw more (omega arith)
+    by-row i j false false same less crossed =
+        let more : nat_lt j (row + 1) ≡ false = grind (arith, nat_tests) in
+        rw more (omega arith)
+
+-- nothing is marked before the first row
+pub marks-none :
+    (v : PixelGrid) (a b : Position) (area : Area) (row : ℕ) (s : Scratch) → IsHeld area s
+    → ((j : ℕ) → area.rows.from ≤ j → j < row
+    → is_low (centre_of v 0 j) (doubled a) ≡ is_low (centre_of v 0 j) (doubled b))
+    → AddsMarks (λ i j. if nat_lt j row then (if is_crossed (centre_of v i j) (a, b) then 1 else 0) else 0) area s s
+marks-none v a b area row s held level = record {
+  held = held;
+  counted = λ i j here. pick i j (nat_lt j row) refl here.north;
+}
+  where
+    pick :
+        (i j : ℕ) (t : Bool) → nat_lt j row ≡ t → area.rows.from ≤ j
+        → held_right i j area s % 2
+        ≡ (held_right i j area s + (if t then (if is_crossed (centre_of v i j) (a, b) then 1 else 0) else 0)) % 2
+    pick i j true less north =
+        let no = level-crossed v i j a b (level j north (grind (arith, nat_tests))) in
+        plus-zero (held_right i j area s) (to_count (is_crossed (centre_of v i j) (a, b))) (ap to_count no)
+    pick i j false less north = plus-zero (held_right i j area s) 0 refl
+
+-- nor behind the last
+pub marks-all :
+    (v : PixelGrid) (a b : Position) (area : Area) (row : ℕ) (old new : Scratch)
+    → ((j : ℕ) → row ≤ j → j < area.rows.end
+    → is_low (centre_of v 0 j) (doubled a) ≡ is_low (centre_of v 0 j) (doubled b))
+    → AddsMarks (λ i j. if nat_lt j row then (if is_crossed (centre_of v i j) (a, b) then 1 else 0) else 0) area old new
+    → AddsMarks (λ i j. if is_crossed (centre_of v i j) (a, b) then 1 else 0) area old new
+marks-all v a b area row old new level told = record {
+  held = told.held;
+  counted = λ i j here.
+      told.counted i j here ∙ ap (λ n. (held_right i j area old + n) % 2) (pick i j (nat_lt j row) refl here.south);
+}
+  where
+    pick :
+        (i j : ℕ) (t : Bool) → nat_lt j row ≡ t → j < area.rows.end
+        → (if t then to_count (is_crossed (centre_of v i j) (a, b)) else 0)
+        ≡ to_count (is_crossed (centre_of v i j) (a, b))
+    pick i j true less south = refl
+    pick i j false less south =
+        let no = level-crossed v i j a b (level j (grind (arith, nat_tests)) south) in
+        sym (ap to_count no)
+
+-- ---- what is inside
+
+-- a scan that holds nothing
+pub none-held : (area : Area) (s : Scratch) → s.marks.items ≡ [] → s.bits.items ≡ [] → IsHeld area s
+none-held area s list plane = record { within = rw list (All-nil (MarkIn area)); room = inl plane }
+
+pub none-right : (area : Area) (s : Scratch) (i j : ℕ) → s.marks.items ≡ [] → s.bits.items ≡ [] → held_right i j area s ≡ 0
+none-right area s i j list plane =
+    let first = ap (marks_right i j) list in
+    let second = ap (bits_right i j area) plane ∙ empty-none area j (i - area.columns.from) (width_of area) in
+    omega arith
+
+-- no words are an empty plane
+pub no-words : (words : List ℕ) → length words ≡ 0 → words ≡ []
+no-words [] none = refl
+no-words (word ∷ words) none = absurd (omega arith)
+
+-- where there is no plane, the list tells all
+pub list-alone :
+    (area : Area) (s : Scratch) (i j : ℕ) → s.bits.items ≡ [] → held_right i j area s ≡ marks_right i j s.marks.items
+list-alone area s i j plane =
+    let none = ap (bits_right i j area) plane ∙ empty-none area j (i - area.columns.from) (width_of area) in
+    omega arith
+
+-- and where the list is empty, the plane does, in the number's last bit
+pub plane-alone :
+    (area : Area) (old new : Scratch) (i j : ℕ) → IsIn area i j → AddsMarks (λ i j. 0) area old new
+    → new.marks.items ≡ [] → bits_right i j area new.bits.items % 2 ≡ held_right i j area old % 2
+plane-alone area old new i j is same list =
+    let first = ap (marks_right i j) list in
+    let told = same.counted i j is in
+    omega arith
+
+-- runs that are added by a test are added by one that answers the same
+pub adds-alike :
+    (test other : ℕ → ℕ → Bool) (area : Area) (old new : List Run)
+    → ((i j : ℕ) → IsIn area i j → test i j ≡ other i j) → Adds test area old new → Adds other area old new
+adds-alike test other area old new same added = record {
+  within = added.within;
+  covered = λ i j here. added.covered i j here ∙ ap (λ t. is_on_any i j old || t) (same i j here);
+}
+
+-- marks of crossings that were put with none tell what is inside
+pub marks-inside :
+    (test : ℕ → ℕ → Bool) (crossed : ℕ → ℕ → ℕ) (area : Area) (first s : Scratch) (old new : List Run)
+    → ((i j : ℕ) → test i j ≡ (crossed i j % 2 == 1)) → first.marks.items ≡ [] → first.bits.items ≡ []
+    → AddsMarks crossed area first s → Adds (λ i j. held_right i j area s % 2 == 1) area old new
+    → Adds test area old new
+marks-inside test crossed area first s old new told list plane marked added =
+    adds-alike (λ i j. held_right i j area s % 2 == 1) test area old new
+    (λ i j here.
+    let none = none-right area first i j list plane in
+    let count = marked.counted i j here in
+    let same : held_right i j area s % 2 ≡ crossed i j % 2 = omega arith in
+    ap (λ n. n == 1) same ∙ sym (told i j))
+    added
