@@ -69,9 +69,9 @@ impl<'a> Model for PaintOrder<'a> {
     ghost Value = { PaintParts };
 
     ghost view = { λ q. record {
-        project = q.project.now;
-        number = q.number.now;
-        canvas = q.canvas;
-        out = q.out.now;
+      project = q.project.now;
+      number = q.number.now;
+      canvas = q.canvas;
+      out = q.out.now;
     } };
 }

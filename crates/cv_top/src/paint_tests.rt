@@ -24,13 +24,13 @@ const MASK: &str = "wkt\n\"POLYGON((0 0,4 0,4 2,0 2,0 0))\"\n";
 
 // What stands after a run over devices that never fail.
 #[derive(Drop)]
-struct Painted {
+struct After {
     told: String,
     tray: SureTray,
 }
 
 // A run over these files: its end, how many names were asked, and what was printed.
-fn painted(alloc: Global, line: &str, pairs: &[(&str, &str)]) -> Result<Painted, AllocError> {
+fn painted(alloc: Global, line: &str, pairs: &[(&str, &str)]) -> Result<After, AllocError> {
     let mut shelf = MemShelf::new(alloc, files_of(alloc, pairs)?, Vec::new(alloc));
     let mut tray = SureTray::new(alloc, BTreeMap::new(alloc));
     let mut out = SureSink::new(Vec::new(alloc));
@@ -39,7 +39,7 @@ fn painted(alloc: Global, line: &str, pairs: &[(&str, &str)]) -> Result<Painted,
     let asked = shelf.asked().len();
     let printed = String::from_utf8_lossy(alloc, out.bytes())?;
     let told = format!(in alloc; "{end:?} {asked} {printed}")?;
-    Ok(Painted { told, tray })
+    Ok(After { told, tray })
 }
 
 // The red of each pixel of a picture of 16, after its head of 11 bytes.
@@ -73,9 +73,15 @@ fn a_masked_layer_is_multiplied(rt: HostRuntime) -> Result<(), Fail> {
 fn a_canvas_is_refused_before_any_layer_is_read(rt: HostRuntime) -> Result<(), Fail> {
     let alloc = rt.alloc();
     let found = painted(alloc, "paint two.json 1 a.ppm", &[("two.json", TWO)])?;
-    assert_eq!(rt; found.told.as_str(), "BadProject(Missing(\"canvases[1]\")) 1 ");
+    assert_eq!(rt;
+        found.told.as_str(),
+        "BadProject(Missing(Text { text: \"canvases[1]\" })) 1 "
+    );
     let found = painted(alloc, "paint p.json 0 a.ppm", &[("p.json", BLIND)])?;
-    assert_eq!(rt; found.told.as_str(), "BadProject(Missing(\"canvases[0].extent\")) 1 ");
+    assert_eq!(rt;
+        found.told.as_str(),
+        "BadProject(Missing(Text { text: \"canvases[0].extent\" })) 1 "
+    );
     let found = painted(alloc, "paint two.json 0 a.ppm", &[("two.json", TWO)])?;
     assert_eq!(rt; found.told.as_str(), "Missing(Layer(0)) 2 ");
     Ok(())

@@ -250,7 +250,12 @@ fn words_that_are_no_form_are_usage(rt: HostRuntime) -> Result<(), Fail> {
     let rows = [
         "",
         "quick",
-        "paint p.json 0 out.ppm",
+        "paint p.json 0",
+        "paint p.json 0 out.ppm extra",
+        "paint p.json 4294967296 out.ppm",
+        "paint p.json x out.ppm",
+        "paint p.json 0 -x",
+        "paint|p.json|0|",
         "check",
         "check|",
         "check -x",
@@ -398,7 +403,10 @@ fn a_project_past_the_limit_is_refused(rt: HostRuntime) -> Result<(), Fail> {
     let mut tray = SureTray::new(alloc, one_file(alloc, "sq.ppm", b"old")?);
     let mut out = SureSink::new(Vec::new(alloc));
     let end = play(alloc, "check p.json", &mut Endless, &mut tray, &mut out);
-    assert_eq!(rt; shown(alloc, &end)?.as_str(), "BadProject(Limit(Text { text: \"file\" }))");
+    assert_eq!(rt;
+        shown(alloc, &end)?.as_str(),
+        "BadProject(Limit(Text { text: \"file\" }))"
+    );
     assert_eq!(rt; tray.file("sq.ppm"), Some(b"old".as_slice()));
     Ok(())
 }
