@@ -1,0 +1,3 @@
+-- Lemmas on slots, and on the picture that they make.
+pub mod SlotLemmas
+pub mod PictureLemmas
