@@ -1,7 +1,7 @@
 -- The verdict and the outcome of an edit at the place of its layer.
-use Rattle.std.proofs.Common.{◌≡◌, ◌∙◌, sym, ap, subst, refl, ℕ, suc, ◌<◌, Bool, true, false, not, List, Option, Some, None}
+use Rattle.std.proofs.Common.{◌≡◌, ◌∙◌, sym, ap, subst, refl, ℕ, suc, ◌<◌, Bool, true, false, not, List, Some, None}
 use Rattle.std.proofs.Common.{map, set, length, Result, Ok, Err, [], ◌∷◌, ◌≤◌, arith, nat_le}
-use Rattle.std.specs.Prelude.{slice_get, position, IfOk, OnOk, insert, remove}
+use Rattle.std.specs.Prelude.{slice_get, position, IfOk}
 use Rattle.cv_model.specs.declared.edit.Edit.{Edit}
 use Rattle.cv_model.specs.declared.edit.Edit.TheVariants.{RemoveLayer, MoveLayer}
 use Rattle.cv_model.specs.declared.edit.EditError.TheVariants.{BadPlace}
@@ -10,7 +10,7 @@ use Rattle.cv_model.specs.Layers.{Core, Layer, has_layer}
 use Rattle.cv_model.specs.Edits.{touched, step_layers, step_background, change_core, change_layer, is_over}
 use Rattle.cv_model.specs.Edits.{lacks_layer, lacks_feature, is_wrong_kind, is_duplicate, names_too_much, is_bad_place}
 use Rattle.cv_layer.specs.Layers.{RevisedCore}
-use Rattle.cv_store.specs.Stores.{StoreParts, RevisedLayer, layer_of, id_of, has_id, with_core, with_frame, IsStore}
+use Rattle.cv_store.specs.Stores.{StoreParts, RevisedLayer, layer_of, id_of, has_id, with_core, IsStore}
 use Rattle.cv_store.specs.Tallies.{tally_of}
 use Rattle.cv_store.specs.Answers.{verdict_in, IsEdited, IsChange, IsPut, is_spent, knows}
 use Rattle.cv_store.proofs.Lists.{one_at, got, at_position, at_within, any_lacks, lacks_position}
@@ -121,7 +121,7 @@ module _ (s : StoreParts) (e : Edit) (id n : ℕ) (was : IsStore s) (place : pos
 
 -- ---- edits that take a layer out
 
-length_layers : (rows : List RevisedLayer) → length (map layer_of rows) ≡ length rows
+pub length_layers : (rows : List RevisedLayer) → length (map layer_of rows) ≡ length rows
 length_layers [] = refl
 length_layers (row ∷ rows) = ap suc (length_layers rows)
 

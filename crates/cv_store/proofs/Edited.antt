@@ -1,20 +1,19 @@
 -- One store behind an edit of another.
-use Rattle.std.proofs.Common.{◌≡◌, ◌∙◌, sym, ap, subst, refl, ℕ, zero, suc, ◌+◌, ◌<◌, ◌≤◌, ◌==◌, Bool, true, false, not}
-use Rattle.std.proofs.Common.{List, [], ◌∷◌, ◌++◌, length, Option, Some, None, arith, set, map, ◌||◌, cond}
+use Rattle.std.proofs.Common.{◌≡◌, ◌∙◌, sym, ap, subst, refl, ℕ, zero, suc, Bool, true, false}
+use Rattle.std.proofs.Common.{List, [], ◌∷◌, Option, Some, None, arith, set, map, ◌||◌}
 use Rattle.std.specs.Prelude.{insert, remove, slice_get, nat_eq, position, find, is_some, IfSome, if◌then◌else◌}
 use Rattle.std.specs.List.{list_any, IsDistinct}
 use Rattle.std.specs.Option.{option_map, option_map_or}
 use Rattle.std.proofs.lemmas.Bool.Decides.{nat_tests}
 use Rattle.std.proofs.lemmas.List.{map-set}
 use Rattle.indexmap.proofs.SetLemmas.{map-insert, map-remove}
-use Rattle.cv_model.specs.declared.colour.Rgb.{Rgb}
 use Rattle.cv_model.specs.declared.edit.Edit.{Edit}
-use Rattle.cv_model.specs.Layers.{Contents, Features, Core, Layer, is_layer, has_layer, core_in}
+use Rattle.cv_model.specs.Layers.{Features, Core, Layer, is_layer, has_layer}
 use Rattle.cv_model.specs.Edits.{touched, touches_any, step, step_layers, step_background, change_core, change_layer}
 use Rattle.cv_model.specs.Edits.{without_layer, moved, contents_at}
 use Rattle.cv_store.specs.Stores.{StoreParts, RevisedLayer, layer_of, id_of, has_id, project_of, revision_in, IsStore}
 use Rattle.cv_store.specs.Answers.{IsEdited, revision_after}
-use Rattle.cv_store.proofs.Lists.{has, IsAt, Lacks, at_position, at_within, find_at, key_at, change_at, without_at}
+use Rattle.cv_store.proofs.Lists.{IsAt, at_position, at_within, find_at, key_at, change_at, without_at}
 use Rattle.cv_store.proofs.Lists.{any_found, find_lacks, find_set_other, at_set, get_set, find_remove_other}
 use Rattle.cv_store.proofs.Lists.{lacks_remove, find_insert_other, find_insert, lacks_key, lacks_any}
 use Rattle.cv_store.proofs.MapLemmas.{layer_at}

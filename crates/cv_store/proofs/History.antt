@@ -1,5 +1,5 @@
 -- Histories of edits: what equal stamps say, and that a store goes on with one.
-use Rattle.std.proofs.Common.{◌≡◌, ◌∙◌, sym, ap, subst, refl, ℕ, zero, suc, ◌+◌, ◌-◌, ◌<◌, ◌≤◌, Bool, true, false}
+use Rattle.std.proofs.Common.{◌≡◌, ◌∙◌, sym, ap, subst, refl, ℕ, zero, suc, ◌+◌, ◌≤◌, Bool, true, false}
 use Rattle.std.proofs.Common.{List, [], ◌∷◌, ◌++◌, length, Option, Some, None, arith, map, ◌||◌, take, drop, nat_lt}
 use Rattle.std.specs.Prelude.{nat_eq, find, option_map, option_and_then, if◌then◌else◌, fold, is_some}
 use Rattle.std.specs.List.{list_any, AllByRecursion}
@@ -8,19 +8,18 @@ use Rattle.std.proofs.lemmas.Bool.{false≢true}
 use Rattle.std.proofs.lemmas.Bool.Decides.{nat_tests}
 use Rattle.std.proofs.lemmas.List.{take-append-drop}
 use Rattle.std.proofs.lemmas.List.Sums.{fold-append}
-use Rattle.std.proofs.lemmas.Bool.{true≢false}
 use native.Mathlib.Decide.{dec_le}
 use mathlib.Core.Logic.{dite}
 use Rattle.cv_model.specs.declared.edit.Edit.{Edit}
 use Rattle.cv_model.specs.declared.layer.Join.{Join}
-use Rattle.cv_model.specs.Layers.{Core, Layer, Parts, Project, is_layer, core_in, parts, parts_among, deps, deps_of, has_layer}
+use Rattle.cv_model.specs.Layers.{Core, Layer, Project, is_layer, core_in, parts, parts_among, deps, deps_of, has_layer}
 use Rattle.cv_model.specs.Paintings.{Stamp}
-use Rattle.cv_model.specs.Edits.{touched, touches_any, step, step_layers, last_touch, revision, stamps, version}
-use Rattle.cv_model.proofs.EditLemmas.{Leaves, core_of, core_stays, found_is}
+use Rattle.cv_model.specs.Edits.{touched, touches_any, step, last_touch, revision, stamps}
+use Rattle.cv_model.proofs.EditLemmas.{Leaves, core_of, core_stays}
 use Rattle.cv_model.proofs.LawLemmas.{core_id}
-use Rattle.cv_store.specs.Stores.{StoreParts, layer_of, project_of, revision_in}
-use Rattle.cv_store.specs.Answers.{IsEdited, revision_after}
-use Rattle.cv_store.specs.Laws.{EqualStampsEqualParts, IsBehind, HistoryGoesOn, behind}
+use Rattle.cv_store.specs.Stores.{project_of, revision_in}
+use Rattle.cv_store.specs.Answers.{revision_after}
+use Rattle.cv_store.specs.Laws.{EqualStampsEqualParts, HistoryGoesOn}
 
 -- an edit touches this id
 abbrev pub hits : ℕ → Edit → Bool

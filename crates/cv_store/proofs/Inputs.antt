@@ -1,17 +1,16 @@
 -- What a layer is painted from, by what is found of it.
 use Rattle.std.proofs.Common.{◌≡◌, ◌∙◌, sym, ap, subst, refl, ℕ, Bool, true, false, List, [], ◌∷◌, ◌++◌, Option, Some, None}
 use Rattle.std.proofs.Common.{map, arith, cond}
-use Rattle.std.specs.Prelude.{slice_get, position, find, option_map, option_and_then, IfSome, nat_eq}
+use Rattle.std.specs.Prelude.{find, option_map, option_and_then, IfSome}
 use Rattle.std.specs.Option.{option_map_or, option_to_list}
 use Rattle.std.proofs.lemmas.Bool.Decides.{nat_tests}
 use Rattle.cv_model.specs.declared.layer.Join.{Join}
-use Rattle.cv_model.specs.Layers.{Core, Layer, Parts, is_layer, core_in, parts_among, deps_of}
-use Rattle.cv_model.specs.Paintings.{Input, Stamp}
+use Rattle.cv_model.specs.Layers.{Layer, is_layer, core_in, parts_among}
+use Rattle.cv_model.specs.Paintings.{Stamp}
 use Rattle.cv_layer.specs.Layers.{RevisedCore}
 use Rattle.cv_layer.specs.Inputs.{input_of, stamps_of, revision_of, IsInput}
-use Rattle.cv_store.specs.Stores.{StoreParts, RevisedLayer, layer_of, id_of, has_id, core_of, core_found, revision_in}
-use Rattle.cv_store.specs.Stores.{stamp_in, core_stamps, stamps_in, input_in, input_from, project_of}
-use Rattle.cv_store.proofs.Lists.{has, at_position, find_at, find_lacks, lacks_position}
+use Rattle.cv_store.specs.Stores.{StoreParts, RevisedLayer, layer_of, has_id, core_of, core_found, revision_in}
+use Rattle.cv_store.specs.Stores.{stamp_in, core_stamps, input_in, input_from}
 
 -- a core among the layers is that of the row which is found
 pub core_row : (q : ℕ) (rows : List RevisedLayer)

@@ -1,21 +1,20 @@
 -- What a store keeps behind a change of its layers.
-use Rattle.std.proofs.Common.{◌≡◌, ◌∙◌, sym, ap, subst, refl, ℕ, zero, suc, ◌+◌, ◌-◌, ◌<◌, ◌≤◌, Bool, true, false, List}
+use Rattle.std.proofs.Common.{◌≡◌, ◌∙◌, sym, ap, subst, refl, ℕ, zero, suc, ◌+◌, ◌-◌, ◌≤◌, false, List}
 use Rattle.std.proofs.Common.{[], ◌∷◌, length, Some, arith, set, map, nat_lt}
 use Rattle.std.specs.Prelude.{insert, remove, slice_get, nat_eq}
-use Rattle.std.specs.List.{AllByRecursion, IsDistinct, list_any}
+use Rattle.std.specs.List.{AllByRecursion, IsDistinct}
 use Rattle.std.proofs.lemmas.List.{map-set, length-set}
 use Rattle.std.proofs.lemmas.Bool.Decides.{nat_tests}
-use Rattle.std.proofs.lemmas.Option.{slice_get_within}
 use Rattle.indexmap.proofs.SetLemmas.{map-insert, map-remove}
 use Rattle.cv_model.specs.declared.colour.Rgb.{Rgb}
 use Rattle.cv_model.specs.Layers.{Layer}
 use Rattle.cv_model.specs.Edits.{is_over}
 use Rattle.cv_store.specs.declared.tally.Tally.{Tally}
-use Rattle.cv_store.specs.Stores.{StoreParts, RevisedLayer, layer_of, id_of, has_id, IsStore}
-use Rattle.cv_store.specs.Tallies.{tally_of, totals_of, IsPartOf, IsExchanged}
-use Rattle.cv_store.proofs.Lists.{has, Lacks, keys_set, distinct_insert, distinct_remove, lacks_key, lacks_any}
-use Rattle.cv_store.proofs.MapLemmas.{layer_at, counts_set, counts_remove, counts_insert, part_of, none}
-use Rattle.cv_store.proofs.Limits.{IsWithin, within, from_within, part_passes, large_set, large_remove, large_at}
+use Rattle.cv_store.specs.Stores.{StoreParts, RevisedLayer, layer_of, id_of, IsStore}
+use Rattle.cv_store.specs.Tallies.{tally_of, totals_of, IsPartOf}
+use Rattle.cv_store.proofs.Lists.{Lacks, keys_set, distinct_insert, distinct_remove, lacks_key}
+use Rattle.cv_store.proofs.MapLemmas.{layer_at, counts_set, counts_remove, counts_insert, part_of}
+use Rattle.cv_store.proofs.Limits.{within, from_within, part_passes, large_set, large_remove, large_at}
 use Rattle.cv_store.proofs.Limits.{large_insert}
 
 -- a revision from 1 to a version

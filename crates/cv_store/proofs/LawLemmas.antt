@@ -1,19 +1,18 @@
 -- The laws of stores.
-use Rattle.std.proofs.Common.{◌≡◌, ◌∙◌, sym, ap, subst, refl, ℕ, zero, suc, ◌+◌, ◌-◌, ◌<◌, ◌≤◌, Bool, true, false, not}
-use Rattle.std.proofs.Common.{List, [], ◌∷◌, ◌++◌, length, Option, Some, None, arith, map, ◌||◌, take, drop, nat_lt}
-use Rattle.std.specs.Prelude.{nat_eq, find, option_map, option_and_then, if◌then◌else◌, fold, is_some}
+use Rattle.std.proofs.Common.{◌≡◌, ◌∙◌, sym, ap, refl, ℕ, suc, false}
+use Rattle.std.proofs.Common.{List, [], ◌∷◌, Option, Some, None, map, ◌||◌}
+use Rattle.std.specs.Prelude.{nat_eq, option_map, if◌then◌else◌}
 use Rattle.std.specs.List.{list_any}
-use Rattle.std.specs.Option.{option_map_or, option_to_list}
-use Rattle.std.proofs.lemmas.Bool.{false≢true}
+use Rattle.std.specs.Option.{option_map_or}
 use Rattle.cv_model.specs.declared.edit.Edit.{Edit}
-use Rattle.cv_model.specs.Layers.{Core, Layer, Parts, Project, core_in, parts, parts_among, deps, deps_of, has_layer}
-use Rattle.cv_model.specs.Paintings.{Input, Stamp}
+use Rattle.cv_model.specs.Layers.{Core, core_in, parts, parts_among, deps_of, has_layer}
+use Rattle.cv_model.specs.Paintings.{Input}
 use Rattle.cv_model.specs.Edits.{touched, touches_any, step}
 use Rattle.cv_model.proofs.EditLemmas.{leaves_first, leaves_rest}
 use Rattle.cv_model.proofs.LawLemmas.{untouched_parts_stay}
 use Rattle.cv_store.specs.Stores.{StoreParts, layer_of, project_of, revision_in, stamp_in, core_stamps, stamps_in}
 use Rattle.cv_store.specs.Stores.{input_from, input_in}
-use Rattle.cv_store.specs.Answers.{IsEdited, revision_after}
+use Rattle.cv_store.specs.Answers.{IsEdited}
 use Rattle.cv_store.specs.Laws.{InputStays, StampsStay}
 
 -- an edit that leaves an id touches it not

@@ -9,3 +9,7 @@ pub mod Verdicts
 pub mod Changes
 pub mod History
 pub mod Inputs
+pub mod Openings
+pub mod FeatureEdits
+pub mod DataEdits
+pub mod Additions

@@ -1,15 +1,13 @@
 -- The limits, from the counts.
-use Rattle.std.proofs.Common.{◌≡◌, ◌∙◌, sym, ap, subst, refl, ℕ, zero, suc, ◌+◌, ◌<◌, ◌≤◌, Bool, true, false, List, []}
-use Rattle.std.proofs.Common.{◌∷◌, length, Some, arith, set, map, nat_lt, ◌||◌}
+use Rattle.std.proofs.Common.{◌≡◌, ◌∙◌, sym, ap, refl, ℕ, zero, suc, ◌≤◌, Bool, true, false, List, []}
+use Rattle.std.proofs.Common.{◌∷◌, length, Some, arith, set, nat_lt, ◌||◌}
 use Rattle.std.specs.Prelude.{insert, remove, slice_get}
-use Rattle.std.specs.List.{list_any}
 use Rattle.std.proofs.lemmas.Bool.{false≢true}
 use Rattle.std.proofs.lemmas.Bool.Decides.{nat_tests}
-use Rattle.std.proofs.lemmas.List.{length-set}
 use Rattle.cv_model.specs.Layers.{Layer}
 use Rattle.cv_model.specs.Edits.{is_over, cells_of}
 use Rattle.cv_store.specs.declared.tally.Tally.{Tally}
-use Rattle.cv_store.specs.Tallies.{tally_of, totals_of, passes, has_large, IsPartOf, IsExchanged}
+use Rattle.cv_store.specs.Tallies.{totals_of, passes, has_large, IsPartOf}
 
 pub or_left : (a b : Bool) → (a || b) ≡ false → a ≡ false
 or_left true b h = h
@@ -19,7 +17,7 @@ pub or_right : (a b : Bool) → (a || b) ≡ false → b ≡ false
 or_right true b h = absurd (false≢true (sym h))
 or_right false b h = h
 
-or_both : (a b : Bool) → a ≡ false → b ≡ false → (a || b) ≡ false
+pub or_both : (a b : Bool) → a ≡ false → b ≡ false → (a || b) ≡ false
 or_both a b h g = ap (λ x. x || b) h ∙ g
 
 or_assoc : (a b c : Bool) → (a || (b || c)) ≡ ((a || b) || c)

@@ -1,7 +1,7 @@
 -- The verdict of an edit, test by test.
-use Rattle.std.proofs.Common.{◌≡◌, ◌∙◌, sym, ap, subst, refl, ℕ, suc, Bool, true, false, not, List, [], ◌∷◌, Option, Some, None}
+use Rattle.std.proofs.Common.{◌≡◌, ◌∙◌, sym, ap, refl, ℕ, suc, Bool, true, false, not, List, [], ◌∷◌, Option, None}
 use Rattle.std.proofs.Common.{map, ◌||◌, Result, Ok, Err}
-use Rattle.std.specs.Prelude.{slice_get, position, nat_le, IfOk, IfErr, OnOk}
+use Rattle.std.specs.Prelude.{OnOk}
 use Rattle.cv_model.specs.declared.edit.Edit.{Edit}
 use Rattle.cv_model.specs.declared.edit.EditError.{EditError}
 use Rattle.cv_model.specs.declared.edit.EditError.TheVariants.{UnknownLayer, UnknownFeature, WrongKind}
@@ -9,10 +9,10 @@ use Rattle.cv_model.specs.declared.edit.EditError.TheVariants.{DuplicateId, Limi
 use Rattle.cv_model.specs.declared.style.Style.{Style}
 use Rattle.cv_model.specs.Layers.{Layer, has_layer}
 use Rattle.cv_model.specs.Edits.{verdict, first_refusal, lacks_layer, lacks_feature, is_wrong_kind, is_duplicate}
-use Rattle.cv_model.specs.Edits.{passes_limit, is_bad_place, most_edits, is_over, step_layers, names_too_much}
+use Rattle.cv_model.specs.Edits.{passes_limit, is_bad_place, is_over, step_layers, names_too_much}
 use Rattle.cv_model.specs.Edits.{fits, contents_at}
-use Rattle.cv_store.specs.Stores.{StoreParts, layer_of, project_of, accepted}
-use Rattle.cv_store.specs.Answers.{verdict_in, told_by, Answers, PlaceAnswer, StyledAnswer, Made, knows, is_spent}
+use Rattle.cv_store.specs.Stores.{StoreParts, layer_of, accepted}
+use Rattle.cv_store.specs.Answers.{verdict_in, told_by, Answers, PlaceAnswer, StyledAnswer, Made, is_spent}
 
 abbrev pub tests : Bool → Bool → Bool → Bool → Bool → Bool → Option EditError
 tests a b c d l p =

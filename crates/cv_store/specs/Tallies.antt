@@ -1,8 +1,11 @@
 -- What contents hold, counted as the limits ask for it.
-use Rattle.std.specs.Prelude.{◌≡◌, ◌≤◌, ◌+◌, ℕ, ◌||◌, Bool, List, length, nat_lt}
+use Rattle.std.specs.Prelude.{◌≡◌, ◌≤◌, ◌+◌, ◌-◌, ℕ, ◌||◌, Bool, List, length, nat_lt}
 use Rattle.std.specs.List.{list_any}
+use Rattle.cv_model.specs.declared.feature.Feature.{Feature}
+use Rattle.cv_model.specs.Geometries.{counted}
 use Rattle.cv_model.specs.Layers.{Contents, Layer}
 use Rattle.cv_model.specs.Edits.{total, count_features, count_vertices, count_values, cells_of}
+use Rattle.cv_model.specs.Edits.{feature_vertices}
 use Rattle.cv_store.specs.declared.tally.Tally.{Tally}
 
 -- the features, vertices, values and cells of contents
@@ -46,3 +49,37 @@ pub record IsExchanged (whole part other made : Tally) : Type 0 where
   pub vertices : made.vertices + part.vertices ≡ whole.vertices + other.vertices
   pub values : made.values + part.values ≡ whole.values + other.values
   pub cells : made.cells + part.cells ≡ whole.cells + other.cells
+
+-- these counts
+abbrev pub exchange : Tally → Tally → Tally → Tally
+exchange whole part other = record {
+  features = whole.features - part.features + other.features;
+  vertices = whole.vertices - part.vertices + other.vertices;
+  values = whole.values - part.values + other.values;
+  cells = whole.cells - part.cells + other.cells;
+}
+
+-- no counts
+abbrev pub no_tally : Tally
+no_tally = record { features = 0; vertices = 0; values = 0; cells = 0 }
+
+-- the vertices of a geometry alone, and a feature, counted as far as 64 bits hold it
+abbrev pub vertex_tally : ℕ → Tally
+vertex_tally vertices = record { features = 0; vertices = counted vertices; values = 0; cells = 0 }
+
+abbrev pub feature_tally : Feature → Tally
+feature_tally feature = record {
+  features = 1;
+  vertices = counted (feature_vertices feature);
+  values = length feature.values;
+  cells = 0;
+}
+
+-- contents, counted; vertices and values as far as 64 bits hold them
+abbrev pub data_tally : Contents → Tally
+data_tally held = record {
+  features = count_features held;
+  vertices = counted (count_vertices held);
+  values = counted (count_values held);
+  cells = cells_of held;
+}

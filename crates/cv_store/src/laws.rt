@@ -1,6 +1,7 @@
 //! What holds of stores and histories of edits, each the clause of a call that does nothing.
 
 ghost use Rattle.cv_store.specs.Laws.{InputStays, StampsStay, EqualStampsEqualParts, HistoryGoesOn};
+ghost use Rattle.cv_store.specs.Opened.{OpenedIsBehind};
 
 /// An edit that touches none of the layers on which a layer depends leaves what the layer is painted from:
 /// its parts and its stamps together.
@@ -21,4 +22,9 @@ pub fn equal_stamps_equal_parts()
 /// A store's project, version and revisions are those of the history of its accepted edits.
 pub fn history_goes_on()
     ensures { HistoryGoesOn }
+{}
+
+/// A store as it is opened is the opened project behind no edits.
+pub fn opened_is_behind()
+    ensures { OpenedIsBehind }
 {}

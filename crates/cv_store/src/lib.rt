@@ -2,13 +2,19 @@
 //!
 //! Contract: a store is a project, a version and a revision for each layer; an edit is refused as the
 //! definitions' verdict says, and what it makes is their step. Definitions: `Stores`, `Tallies`, `Answers`,
-//! `Laws`, in this order.
+//! `Data`, `Adding`, `Laws`, `Opened`, in this order.
 #![tactic(auto)]
 
+mod adding;
+mod apply;
+mod copies;
+mod data;
 mod frames;
 mod input;
 pub mod laws;
 mod layers;
+mod opening;
+mod room;
 mod row;
 mod store;
 mod tally;

@@ -1,13 +1,17 @@
 //! The project at its present version.
 
-ghost use Rattle.std.specs.Prelude.{◌≡◌, ◌<◌, ◌≤◌, suc, option_map, slice_get, map, set, insert, remove, length};
+ghost use Rattle.std.specs.Prelude.{◌≡◌, ◌<◌, ◌≤◌, suc, option_map, slice_get, map, set, insert, remove};
+ghost use Rattle.std.specs.Prelude.{length};
 ghost use Rattle.std.specs.Prelude.{OnOk, OnErr, IfOk, Some, [], false, nat_le};
-ghost use Rattle.std.specs.List.{list_any};
+ghost use Rattle.std.specs.List.{list_any, AllByRecursion};
 ghost use Rattle.cv_model.specs.Edits.{is_over, most_edits};
-ghost use Rattle.cv_store.specs.Stores.{StoreParts, RevisedLayer, layer_of, id_of, has_id, frame_of, with_frame};
+ghost use Rattle.cv_store.specs.Stores.{StoreParts, RevisedLayer, layer_of, id_of, has_id, frame_of};
+ghost use Rattle.cv_store.specs.Stores.{with_frame};
+ghost use Rattle.cv_store.specs.Tallies.{totals_of};
 ghost use Rattle.cv_store.specs.Stores.{with_core, accepted, IsStore};
 
 use crate::layers::LayerMap;
+use crate::room::Room;
 use crate::row::Row;
 use cv_layer::{NoMemory, SharedLayer};
 use cv_model::{LayerFrame, Rgb};
@@ -54,6 +58,20 @@ impl Store {
         }
     }
 
+    /// A store of these layers at version 1, each of revision 1. Takes no memory.
+    pub(crate) fn opened(alloc: Global, background: Rgb, layers: LayerMap) -> Store
+        requires within { is_over (map layer_of layers) ≡ false }
+        requires first { AllByRecursion (λ (row : RevisedLayer). row.revision ≡ 1) layers }
+        ensures { result ≡ record { background = background; layers = layers; version = 1 } }
+    {
+        Store {
+            alloc,
+            background,
+            layers,
+            version: 1,
+        }
+    }
+
     /// The version: one more than the number of accepted edits.
     pub fn version(&self) -> u64
         ensures { result ≡ self.now.version }
@@ -95,6 +113,20 @@ impl Store {
         ensures kept { IsStore self.now }
     {
         self.version > MOST_EDITS
+    }
+
+    /// How much an edit may still put in.
+    pub(crate) fn room(&self) -> Room
+        ensures room { result ≡ record {
+          sums = (totals_of (map layer_of self.now.layers));
+          spent = (nat_le most_edits (accepted self.now));
+        } }
+        ensures kept { IsStore self.now }
+    {
+        Room {
+            sums: self.layers.sums(),
+            spent: self.is_spent(),
+        }
     }
 
     /// The layers, by their places.
