@@ -93,8 +93,8 @@ pub fn paint_slots(
 ) -> Result<(SlotList, SlotImages), NoMemory>
     ensures slots { IfOk result
         (λ made. made.0 ≡ map slot_frame (slots (project_of store.now) view.now)) }
-    ensures layers { IfOk result (λ made.
-        ArePlacesOf (project_of store.now) view.now (λ k. true) 0 (slots (project_of store.now) view.now) made.1) }
+    ensures layers { IfOk result (λ made. ArePlacesOf (project_of store.now) view.now (λ k. true) 0
+        (slots (project_of store.now) view.now) made.1) }
 {
     let (mut slots, mut layers) = (SlotList::new(alloc), SlotImages::new(alloc));
     let mut at = store.len();

@@ -121,7 +121,7 @@ module _ (s : StoreParts) (e : Edit) (id n : ℕ) (was : IsStore s) (place : pos
 
 -- ---- edits that take a layer out
 
-length_layers : (rows : List RevisedLayer) → length (map layer_of rows) ≡ length rows
+pub length_layers : (rows : List RevisedLayer) → length (map layer_of rows) ≡ length rows
 length_layers [] = refl
 length_layers (row ∷ rows) = ap suc (length_layers rows)
 

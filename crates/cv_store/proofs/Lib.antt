@@ -12,3 +12,4 @@ pub mod Inputs
 pub mod Openings
 pub mod FeatureEdits
 pub mod DataEdits
+pub mod Additions

@@ -67,7 +67,8 @@ PlaceAnswer s layer (Err NoMemory) = ⊥
 -- the same where the layer must be one that a style fits
 abbrev pub StyledAnswer : StoreParts → ℕ → Style → Result ℕ EditError → Type 0
 StyledAnswer s layer style (Ok at) =
-    (position (has_id layer) s.layers ≡ Some at) × (fits style (contents_at (map layer_of s.layers) layer) ≡ true)
+    (position (has_id layer) s.layers ≡ Some at)
+    × (fits style (contents_at (map layer_of s.layers) layer) ≡ true)
     × (is_spent s ≡ false)
 StyledAnswer s layer style (Err UnknownLayer) = knows s layer ≡ false
 StyledAnswer s layer style (Err UnknownFeature) = ⊥
@@ -75,7 +76,8 @@ StyledAnswer s layer style (Err WrongKind) =
     (knows s layer ≡ true) × (fits style (contents_at (map layer_of s.layers) layer) ≡ false)
 StyledAnswer s layer style (Err DuplicateId) = ⊥
 StyledAnswer s layer style (Err Limit) =
-    (knows s layer ≡ true) × (fits style (contents_at (map layer_of s.layers) layer) ≡ true) × (is_spent s ≡ true)
+    (knows s layer ≡ true) × (fits style (contents_at (map layer_of s.layers) layer) ≡ true)
+    × (is_spent s ≡ true)
 StyledAnswer s layer style (Err BadPlace) = ⊥
 StyledAnswer s layer style (Err NoMemory) = ⊥
 

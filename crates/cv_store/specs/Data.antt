@@ -1,5 +1,6 @@
 -- Edits of what a layer holds, as they are seen at that layer.
-use Rattle.std.specs.Prelude.{◌≡◌, ℕ, ◌||◌, ◌*◌, ◌+◌, ◌++◌, ◌∷◌, [], Bool, false, not, nat_lt, Option, Some, None}
+use Rattle.std.specs.Prelude.{◌≡◌, ℕ, ◌||◌, ◌*◌, ◌+◌, ◌++◌, ◌∷◌, [], Bool, false, not, nat_lt, Option}
+use Rattle.std.specs.Prelude.{Some, None}
 use Rattle.std.specs.Prelude.{Result, Ok, Err, insert, set, position, bytes_eq, is_none}
 use Rattle.cv_model.specs.declared.edit.Edit.{Edit}
 use Rattle.cv_model.specs.declared.edit.Edit.TheVariants.{AddFeature, InsertFeature, RemoveFeature}
@@ -8,7 +9,8 @@ use Rattle.cv_model.specs.declared.edit.EditError.{EditError}
 use Rattle.cv_model.specs.declared.edit.EditError.TheVariants.{UnknownFeature, WrongKind, DuplicateId}
 use Rattle.cv_model.specs.declared.edit.EditError.TheVariants.{Limit, BadPlace}
 use Rattle.cv_model.specs.Edits.{first_refusal, with_features, with_attribute, with_cells, without_feature}
-use Rattle.cv_model.specs.Edits.{change_feature, misses, is_grid, has_feature, is_uneven, columns_of, misses_cell}
+use Rattle.cv_model.specs.Edits.{change_feature, misses, is_grid, has_feature, is_uneven, columns_of}
+use Rattle.cv_model.specs.Edits.{misses_cell}
 use Rattle.cv_model.specs.Edits.{count_features}
 use Rattle.cv_model.specs.Grids.{CellGrid}
 use Rattle.cv_model.specs.Layers.{Contents, Features, Cells}
@@ -35,7 +37,8 @@ changed (RemoveFeature layer id) held = with_features (without_feature id) held
 changed (SetGeometry layer id geometry) held =
     with_features (change_feature id (λ feature. record feature { geometry = geometry })) held
 changed (SetAttribute layer id column value) held = with_attribute id column value held
-changed (SetCell layer row col cell) held = with_cells (λ grid. set grid.cells (row * grid.cols + col) cell) held
+changed (SetCell layer row col cell) held =
+    with_cells (λ grid. set grid.cells (row * grid.cols + col) cell) held
 changed _ held = held
 
 -- the first cause that holds where the layer is there: the feature isn't, the kind is wrong, the id is
@@ -43,7 +46,8 @@ changed _ held = held
 abbrev pub cause : Bool → Bool → Bool → Bool → Bool → Option EditError
 cause lacks wrong taken over bad =
     first_refusal
-    ((lacks, UnknownFeature) ∷ (wrong, WrongKind) ∷ (taken, DuplicateId) ∷ (over, Limit) ∷ (bad, BadPlace) ∷ [])
+    ((lacks, UnknownFeature) ∷ (wrong, WrongKind) ∷ (taken, DuplicateId) ∷ (over, Limit)
+    ∷ (bad, BadPlace) ∷ [])
 
 -- why such an edit is refused, where it is known whether a limit is passed
 abbrev pub refusal : Edit → Contents → Bool → Option EditError

@@ -4,5 +4,6 @@ pub mod Tallies
 pub mod Maps
 pub mod Answers
 pub mod Data
+pub mod Adding
 pub mod Laws
 pub mod Opened

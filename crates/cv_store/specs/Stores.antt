@@ -30,10 +30,11 @@ layer_of row = row.layer
 abbrev pub id_of : RevisedLayer → ℕ
 id_of row = row.layer.core.id
 
--- its core with its revision, and how it is merged into a picture
+-- its core with its revision
 abbrev pub core_of : RevisedLayer → RevisedCore
 core_of row = record { core = row.layer.core; revision = row.revision }
 
+-- how it is merged into a picture, with its id
 abbrev pub frame_of : Layer → LayerFrame
 frame_of layer = record {
   id = layer.core.id;
@@ -102,4 +103,5 @@ pub record IsStore (s : StoreParts) : Type 0 where
   pub distinct : IsDistinct nat_eq (map id_of s.layers)
   pub within : is_over (map layer_of s.layers) ≡ false
   pub opened : 1 ≤ s.version
-  pub revised : AllByRecursion (λ (row : RevisedLayer). (1 ≤ row.revision) × (row.revision ≤ s.version)) s.layers
+  pub revised : AllByRecursion
+      (λ (row : RevisedLayer). (1 ≤ row.revision) × (row.revision ≤ s.version)) s.layers

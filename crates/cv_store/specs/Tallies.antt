@@ -74,3 +74,12 @@ feature_tally feature = record {
   values = length feature.values;
   cells = 0;
 }
+
+-- contents, counted; vertices and values as far as 64 bits hold them
+abbrev pub data_tally : Contents → Tally
+data_tally held = record {
+  features = count_features held;
+  vertices = counted (count_vertices held);
+  values = counted (count_values held);
+  cells = cells_of held;
+}

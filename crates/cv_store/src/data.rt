@@ -5,7 +5,8 @@ ghost use Rattle.cv_model.specs.declared.edit.Edit.TheVariants.{AddFeature, Inse
 ghost use Rattle.cv_model.specs.declared.edit.Edit.TheVariants.{SetGeometry, SetAttribute, SetCell};
 ghost use Rattle.cv_model.specs.Features.{IsFeatureTable};
 ghost use Rattle.cv_layer.specs.Layers.{contents_seen};
-ghost use Rattle.cv_store.specs.Data.{changed, data_layer, answer_to, table_seen, cells_seen, HasRoom, Judges};
+ghost use Rattle.cv_store.specs.Data.{changed, data_layer, answer_to, table_seen, cells_seen, HasRoom};
+ghost use Rattle.cv_store.specs.Data.{Judges};
 
 use crate::room::Room;
 use crate::tally::{NONE, feature_tally, geometry_tally};

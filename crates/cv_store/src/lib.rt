@@ -2,10 +2,12 @@
 //!
 //! Contract: a store is a project, a version and a revision for each layer; an edit is refused as the
 //! definitions' verdict says, and what it makes is their step. Definitions: `Stores`, `Tallies`, `Answers`,
-//! `Data`, `Laws`, `Opened`, in this order.
+//! `Data`, `Adding`, `Laws`, `Opened`, in this order.
 #![tactic(auto)]
 
+mod adding;
 mod apply;
+mod copies;
 mod data;
 mod frames;
 mod input;

@@ -1,10 +1,12 @@
 //! The project at its present version.
 
-ghost use Rattle.std.specs.Prelude.{◌≡◌, ◌<◌, ◌≤◌, suc, option_map, slice_get, map, set, insert, remove, length};
+ghost use Rattle.std.specs.Prelude.{◌≡◌, ◌<◌, ◌≤◌, suc, option_map, slice_get, map, set, insert, remove};
+ghost use Rattle.std.specs.Prelude.{length};
 ghost use Rattle.std.specs.Prelude.{OnOk, OnErr, IfOk, Some, [], false, nat_le};
 ghost use Rattle.std.specs.List.{list_any, AllByRecursion};
 ghost use Rattle.cv_model.specs.Edits.{is_over, most_edits};
-ghost use Rattle.cv_store.specs.Stores.{StoreParts, RevisedLayer, layer_of, id_of, has_id, frame_of, with_frame};
+ghost use Rattle.cv_store.specs.Stores.{StoreParts, RevisedLayer, layer_of, id_of, has_id, frame_of};
+ghost use Rattle.cv_store.specs.Stores.{with_frame};
 ghost use Rattle.cv_store.specs.Tallies.{totals_of};
 ghost use Rattle.cv_store.specs.Stores.{with_core, accepted, IsStore};
 

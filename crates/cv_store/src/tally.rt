@@ -6,7 +6,7 @@ ghost use Rattle.cv_model.specs.Geometries.{counted, vertices_of};
 ghost use Rattle.cv_model.specs.Edits.{feature_vertices};
 ghost use Rattle.cv_layer.specs.Layers.{contents_seen};
 ghost use Rattle.cv_store.specs.Tallies.{tally_of, passes, IsPartOf, IsExchanged};
-ghost use Rattle.cv_store.specs.Tallies.{feature_tally, vertex_tally};
+ghost use Rattle.cv_store.specs.Tallies.{feature_tally, vertex_tally, no_tally};
 
 use cv_layer::{LayerContents, NoMemory};
 use cv_model::{Feature, Geometry};
@@ -109,7 +109,7 @@ impl Tally {
     /// The counts without a part of them.
     pub fn less(self, part: Tally) -> Tally
         requires { IsPartOf part self }
-        ensures { IsExchanged self part (record { features = 0; vertices = 0; values = 0; cells = 0 }) result }
+        ensures { IsExchanged self part no_tally result }
     {
         Tally {
             features: self.features - part.features,

@@ -3,7 +3,6 @@ use Rattle.cv_store.specs.Stores.{project_of}
 use Rattle.cv_map.proofs.PictureLemmas.{frame_is, can_compose, composes}
 use Rattle.cv_map.proofs.picture.paint.Goals as goal
 
--- src/picture.rt:22:20
 pub of-requires : goal.of-requires
 of-requires c =
     let s = project_of c.args.store.now in
@@ -13,7 +12,6 @@ of-requires c =
     c.view.view_is c.background.ensures c.in_ok-slots.ensures.slots)
     c.in_ok-slots.ensures.layers
 
--- src/picture.rt:17:1
 pub returns : goal.returns
 returns c =
     let s = project_of c.args.store.now in

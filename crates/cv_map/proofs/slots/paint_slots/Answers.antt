@@ -5,7 +5,6 @@ use Rattle.cv_store.specs.Stores.{input_in}
 use Rattle.cv_map.proofs.SlotLemmas.{Along, passed, added, painting_of}
 use Rattle.cv_map.proofs.slots.paint_slots.Goals as goal
 
--- src/slots.rt:101:5
 pub loop-at-preserved-in_default : goal.loop-at-preserved-in_default
 loop-at-preserved-in_default c =
     let l = c.loop-at in
@@ -14,7 +13,6 @@ loop-at-preserved-in_default c =
     (subst (Along c.args.store.now c.args.view.now l.slots l.layers) one l.invariant)
     (sym c.slot_at.ensures ∙ c.in_default.is)
 
--- src/slots.rt:101:5
 pub loop-at-preserved : goal.loop-at-preserved
 loop-at-preserved c =
     let l = c.loop-at in

@@ -16,12 +16,10 @@ few : (layers : List Layer) → is_over layers ≡ false → length layers ≤ 3
 unfolding is_over
 few layers e = let h = first_false (nat_lt 32 (length layers)) _ e in grind (arith, nat_tests)
 
--- src/store.rt:87:9
 pub overflow_cast-result : goal.overflow_cast-result
 overflow_cast-result c =
     omega (arith, few (map layer_of c.self.inside.layers) c.self.invariant.within, length-map c.self.inside.layers layer_of, c.len.ensures)
 
--- src/store.rt:83:5
 pub returns-clause-few : goal.returns-clause-few
 returns-clause-few c =
     omega (arith, few (map layer_of c.self.inside.layers) c.self.invariant.within, length-map c.self.inside.layers layer_of, c.len.ensures)
