@@ -5,3 +5,4 @@ pub mod MarkLemmas
 pub mod CrossingLemmas
 pub mod PlaneLemmas
 pub mod HeldLemmas
+pub mod TermLemmas

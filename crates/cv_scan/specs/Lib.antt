@@ -5,3 +5,4 @@ pub mod Marks
 pub mod Fills
 pub mod Planes
 pub mod Held
+pub mod Terms

@@ -1,17 +1,20 @@
 //! Marks of crossings, each edge read once.
 
-ghost use Rattle.std.specs.Prelude.{◌≡◌, ◌+◌, ◌*◌, ◌≤◌, ◌<◌, ℕ, ◌++◌, ◌==◌, ◌%◌, OnOk, length, All};
+ghost use Rattle.std.specs.Prelude.{◌≡◌, ◌+◌, ◌*◌, ◌≤◌, ◌<◌, ℕ, ◌++◌, ◌==◌, ◌%◌, OnOk, IfSome, length, All};
 ghost use Rattle.std.specs.Prelude.{if◌then◌else◌, None, pos, ◌*ℤ◌, ◌≤ℤ◌, int_le};
 ghost use Rattle.std.specs.List.{flat_map};
+ghost use Rattle.cv_model.specs.Positions.{doubled};
 ghost use Rattle.cv_model.specs.Polygons.{edges, crossings, is_crossed};
 ghost use Rattle.cv_model.specs.Views.{centre_of};
 ghost use Rattle.cv_geom.specs.Runs.{Adds, IsArea, rows_of};
 ghost use Rattle.cv_scan.specs.Held.{AddsMarks, IsHeld};
 ghost use Rattle.cv_scan.specs.Marks.{CrossesRows, IsBetween, MarkIn, marks_right, run_between, runs_from};
+ghost use Rattle.cv_scan.specs.Terms.{IsSlope};
 
-use crate::crossings::{column_of_crossing, columns_between, row_of};
+use crate::crossings::{columns_between, row_of};
 use crate::held::put_mark;
 use crate::scratch::Scratch;
+use crate::terms::{Place, Slope, column_at, long_slope, next_place};
 use cv_geom::{Area, Multiples, Run, Runs, Steps, doubled_sides};
 use cv_model::{NoMemory, Point, Polygon, Span, View};
 use std::sync::ledger::Ledger;
@@ -141,10 +144,13 @@ fn put_up<L: Ledger>(
     ensures cost { steps.new ≤ steps.old + rows_of area }
 {
     let between = columns_between(low, high, view, sides, area.columns);
-    put_rows(scratch, low, high, view, area, rows, between, steps)
+    let slope = long_slope(low, high, view, rows);
+    put_rows(scratch, low, high, view, area, rows, between, slope, steps)
 }
 
 /// Puts the marks of an edge from its lower end up, whose crossings lie between some columns, as `put_edge`.
+/// Where its slope is given they are searched until one is found in the area, and then follow each from the one
+/// before.
 fn put_rows<L: Ledger>(
     scratch: &mut Scratch,
     low: Point,
@@ -153,6 +159,7 @@ fn put_rows<L: Ledger>(
     area: Area,
     rows: Span,
     between: Span,
+    slope: Option<Slope>,
     steps: &mut Steps<L>,
 ) -> Result<(), NoMemory>
     requires rises { low.y ≤ℤ high.y }
@@ -160,16 +167,19 @@ fn put_rows<L: Ledger>(
     requires held { IsHeld area scratch.old }
     requires crossed { CrossesRows view.now low high area rows }
     requires between { IsBetween view.now low high area.columns between }
+    requires slope { IfSome slope (λ slope. IsSlope view.now (doubled low) (doubled high) slope) }
     ensures marked { OnOk result (AddsMarks
         (λ i j. if is_crossed (centre_of view.now i j) (low, high) then 1 else 0) area
         scratch.old scratch.new) }
     ensures cost { steps.new ≤ steps.old + rows_of area }
 {
     let _unit = view.u;
+    let mut place: Option<Place> = None;
     for row in rows.from..rows.end {
         steps.tick();
-        let column = column_of_crossing(low, high, view, row, between);
+        let column = column_at(place, low, high, view, row, area.columns, between);
         put_mark(scratch, area, Mark { row, column })?;
+        place = next_place(place, slope, low, high, view, row, column);
     }
     Ok(())
 }

@@ -1,6 +1,8 @@
 // The runs of all rows of a ring, as the crate cv_scan finds them: each edge read once, its rows and the
-// columns of its ends found by one multiplication, each crossing searched between these columns; the marks
-// are brought into order by a bit for each pixel and paired, and the runs are joined. Prints the microseconds
+// columns of its ends found by one multiplication, each crossing searched between these columns, or on an
+// edge of more than five rows found from the one above it; marks stand in a list, and once that is full in a
+// plane of one bit for each pixel; they are brought into order and paired, and the runs are joined. Prints a
+// line for a ring of 1,000,000 short edges and one for a ring of 2,000 long ones: its name, the microseconds
 // that it took, and the columns covered.
 use std::time::Instant;
 
@@ -51,6 +53,19 @@ fn ring(count: u64) -> Vec<Point> {
             2 => Point { x: 1_000_000_000 - at, y: 1_000_000_000 - depth },
             _ => Point { x: depth, y: 1_000_000_000 - at },
         });
+    }
+    points
+}
+
+/// A ring that goes up and down between the lower and the upper rows.
+fn zigzag(count: u64) -> Vec<Point> {
+    let mut seed = 17u64;
+    let mut points = Vec::new();
+    for i in 0..count {
+        seed = seed.wrapping_mul(6_364_136_223_846_793_005).wrapping_add(1_442_695_040_888_963_407);
+        let depth = 12_000_000 + ((seed >> 33) % 400_000_000) as i64 / 400;
+        let x = 500_000 * i as i64;
+        points.push(Point { x, y: if i % 2 == 0 { depth } else { 1_000_000_000 - depth } });
     }
     points
 }
@@ -109,26 +124,110 @@ fn column_of_crossing(low: Point, high: Point, v: &View, row: u32, hint: Span) -
     search(hint.from, hint.end, |i| i128::from(centre(v, i, row).x - 2 * low.x) * i128::from(height) < limit)
 }
 
-fn put_edge(marks: &mut Vec<Mark>, a: Point, b: Point, v: &View, sides: &Multiples, rows: Span) {
+#[derive(Clone, Copy)]
+struct Place {
+    column: i64,
+    over: i128,
+}
+
+#[derive(Clone, Copy)]
+struct Slope {
+    columns: i64,
+    part: i128,
+    whole: i128,
+}
+
+fn long_slope(low: Point, high: Point, v: &View, rows: Span) -> Option<Slope> {
+    if rows.end - rows.from <= 5 {
+        return None;
+    }
+    let side = 2 * v.u;
+    let (dx, dy) = (2 * high.x - 2 * low.x, 2 * high.y - 2 * low.y);
+    let columns = (-dx).div_euclid(dy);
+    let shift = columns.checked_mul(side)?;
+    let part = -(i128::from(dx) * i128::from(side)) - i128::from(shift) * i128::from(dy);
+    let whole = i128::from(side) * i128::from(dy);
+    if 0 <= part && part < whole { Some(Slope { columns, part, whole }) } else { None }
+}
+
+fn place_of(slope: &Slope, low: Point, high: Point, v: &View, row: u32, column: u32) -> Option<Place> {
+    if v.w <= column {
+        return None;
+    }
+    let p = centre(v, column, row);
+    let over = i128::from(p.x - 2 * low.x) * i128::from(2 * high.y - 2 * low.y)
+        - i128::from(2 * high.x - 2 * low.x) * i128::from(p.y - 2 * low.y);
+    if 0 <= over && over < slope.whole { Some(Place { column: i64::from(column), over }) } else { None }
+}
+
+fn below(place: Place, slope: &Slope) -> Option<Place> {
+    let column = place.column.checked_add(slope.columns)?;
+    let over = place.over - slope.part;
+    if 0 <= over {
+        return Some(Place { column, over });
+    }
+    Some(Place { column: column.checked_add(1)?, over: over + slope.whole })
+}
+
+struct Scratch {
+    marks: Vec<Mark>,
+    bits: Vec<u64>,
+}
+
+fn toggle_all(scratch: &mut Scratch, v: &View) {
+    for mark in &scratch.marks {
+        if 0 < mark.column {
+            let place = mark.row as usize * v.w as usize + mark.column as usize - 1;
+            scratch.bits[place / 64] ^= 1 << (place % 64);
+        }
+    }
+    scratch.marks.clear();
+}
+
+fn put_mark(scratch: &mut Scratch, v: &View, mark: Mark) {
+    let size = v.w as usize * v.h as usize;
+    if size / 64 < scratch.marks.len() {
+        if scratch.bits.is_empty() {
+            scratch.bits = vec![0u64; size / 64 + 1];
+        }
+        toggle_all(scratch, v);
+    }
+    scratch.marks.push(mark);
+}
+
+fn put_edge(scratch: &mut Scratch, a: Point, b: Point, v: &View, sides: &Multiples, rows: Span) {
     if rows.from == rows.end {
         return;
     }
     let (low, high) = if a.y <= b.y { (a, b) } else { (b, a) };
     let (from, end) = (column_of(low, v, sides), column_of(high, v, sides));
-    let hint = Span { from: from.min(end), end: from.max(end) };
+    let between = Span { from: from.min(end), end: from.max(end) };
+    let slope = long_slope(low, high, v, rows);
+    let mut place: Option<Place> = None;
     for row in rows.from..rows.end {
-        marks.push(Mark { row, column: column_of_crossing(low, high, v, row, hint) });
+        let column = match place {
+            Some(place) => place.column.max(0).min(i64::from(v.w)) as u32,
+            None => column_of_crossing(low, high, v, row, between),
+        };
+        put_mark(scratch, v, Mark { row, column });
+        place = slope.and_then(|slope| {
+            let here = match place {
+                Some(place) => place,
+                None => place_of(&slope, low, high, v, row, column)?,
+            };
+            below(here, &slope)
+        });
     }
 }
 
-fn put_ring(marks: &mut Vec<Mark>, points: &[Point], v: &View) {
+fn put_ring(scratch: &mut Scratch, points: &[Point], v: &View) {
     let sides = Multiples::of(2 * v.u as u64);
     let mut before = points[points.len() - 1];
     let mut row_before = row_of(before, v, &sides);
     for point in points {
         let row = row_of(*point, v, &sides);
         let rows = Span { from: row.min(row_before), end: row.max(row_before) };
-        put_edge(marks, before, *point, v, &sides, rows);
+        put_edge(scratch, before, *point, v, &sides, rows);
         (before, row_before) = (*point, row);
     }
 }
@@ -171,37 +270,39 @@ fn unite(runs: &mut Vec<Run>) -> Vec<Run> {
     united
 }
 
-/// The runs that end at each other mark, by a bit for each pixel.
-fn put_runs_by_bits(marks: &mut Vec<Mark>, v: &View, into: &mut Vec<Run>) {
-    let (w, h) = (v.w as usize, v.h as usize);
-    let mut bits = vec![0u64; w * h / 64 + 1];
-    for mark in marks.iter() {
-        if 0 < mark.column {
-            let place = mark.row as usize * w + mark.column as usize - 1;
-            bits[place / 64] ^= 1 << (place % 64);
-        }
+/// The runs that end at each other mark: those of a list are sorted, those of a plane read there.
+fn put_runs(scratch: &mut Scratch, v: &View, into: &mut Vec<Run>) {
+    if scratch.bits.is_empty() {
+        scratch.marks.sort_unstable_by_key(|mark| (mark.row, mark.column));
+        scratch.marks.reverse();
+        return put_pairs(&scratch.marks, 0, into);
     }
+    toggle_all(scratch, v);
     for row in 0..v.h {
-        marks.clear();
+        scratch.marks.clear();
         for column in (1..=v.w).rev() {
-            let place = row as usize * w + column as usize - 1;
-            if (bits[place / 64] >> (place % 64)) & 1 == 1 {
-                marks.push(Mark { row, column });
+            let place = row as usize * v.w as usize + column as usize - 1;
+            if (scratch.bits[place / 64] >> (place % 64)) & 1 == 1 {
+                scratch.marks.push(Mark { row, column });
             }
         }
-        put_pairs(marks, 0, into);
+        put_pairs(&scratch.marks, 0, into);
     }
 }
 
-fn main() {
-    let points = ring(1_000_000);
+fn fill(name: &str, points: &[Point]) {
     let view = View { lx2: 0, ty2: 2_000_000_000, u: 976_563, w: 1024, h: 1024 };
     let start = Instant::now();
-    let mut marks = Vec::new();
-    put_ring(&mut marks, &points, &view);
+    let mut scratch = Scratch { marks: Vec::new(), bits: Vec::new() };
+    put_ring(&mut scratch, points, &view);
     let mut runs = Vec::new();
-    put_runs_by_bits(&mut marks, &view, &mut runs);
+    put_runs(&mut scratch, &view, &mut runs);
     let united = unite(&mut runs);
     let covered: u64 = united.iter().map(|run| u64::from(run.end - run.from)).sum();
-    println!("{} {}", start.elapsed().as_micros(), covered);
+    println!("{name} {} {covered}", start.elapsed().as_micros());
+}
+
+fn main() {
+    fill("short", &ring(1_000_000));
+    fill("long", &zigzag(2_000));
 }

@@ -49,12 +49,6 @@ fn is_low(a: Point, p: Point) -> bool {
     2 * a.y <= p.y
 }
 
-fn passes_right(a: Point, b: Point, p: Point) -> bool {
-    let left = i128::from(p.x - 2 * a.x) * i128::from(2 * b.y - 2 * a.y);
-    let right = i128::from(2 * b.x - 2 * a.x) * i128::from(p.y - 2 * a.y);
-    left < right
-}
-
 fn search(low: u32, high: u32, test: impl Fn(u32) -> bool) -> u32 {
     let (mut at, mut room) = (low, high - low);
     while 0 < room {
@@ -69,24 +63,57 @@ fn search(low: u32, high: u32, test: impl Fn(u32) -> bool) -> u32 {
     at
 }
 
-fn reach(a: Point, b: Point, v: &View, row: u32) -> u32 {
+/// A number with its reciprocal, by which its multiples are counted.
+struct Multiples {
+    step: u64,
+    reciprocal: u64,
+}
+
+impl Multiples {
+    fn of(step: u64) -> Self {
+        Multiples { step, reciprocal: u64::MAX / step }
+    }
+
+    fn count(&self, n: i64, most: u32) -> u32 {
+        if n < 0 {
+            return 0;
+        }
+        let n = n as u64;
+        let guess = ((u128::from(n) * u128::from(self.reciprocal)) >> 64) as u64;
+        let quotient = if n - guess * self.step < self.step { guess } else { guess + 1 };
+        if quotient < u64::from(most) { quotient as u32 + 1 } else { most }
+    }
+}
+
+fn column_of(a: Point, v: &View, sides: &Multiples) -> u32 {
+    sides.count(2 * a.x - 1 - v.lx2 - v.u, v.w)
+}
+
+fn column_of_crossing(low: Point, high: Point, v: &View, row: u32, hint: Span) -> u32 {
+    let limit = i128::from(2 * high.x - 2 * low.x) * i128::from(centre(v, 0, row).y - 2 * low.y);
+    let height = 2 * high.y - 2 * low.y;
+    search(hint.from, hint.end, |i| i128::from(centre(v, i, row).x - 2 * low.x) * i128::from(height) < limit)
+}
+
+/// How many centres of a row lie left of an edge, searched between the columns of its ends.
+fn reach(a: Point, b: Point, v: &View, sides: &Multiples, row: u32) -> u32 {
     let p = centre(v, 0, row);
     let low_a = is_low(a, p);
     if low_a == is_low(b, p) {
-        0
-    } else if low_a {
-        search(0, v.w, |i| passes_right(a, b, centre(v, i, row)))
-    } else {
-        search(0, v.w, |i| passes_right(b, a, centre(v, i, row)))
+        return 0;
     }
+    let (low, high) = if low_a { (a, b) } else { (b, a) };
+    let (from, end) = (column_of(low, v, sides), column_of(high, v, sides));
+    column_of_crossing(low, high, v, row, Span { from: from.min(end), end: from.max(end) })
 }
 
 fn spans(points: &[Point], v: &View, row: u32, into: &mut Vec<Span>) {
     *into = Vec::new();
+    let sides = Multiples::of(2 * v.u as u64);
     let mut reaches = Vec::new();
     let mut before = points[points.len() - 1];
     for point in points {
-        let k = reach(before, *point, v, row);
+        let k = reach(before, *point, v, &sides, row);
         if 0 < k {
             reaches.push(k);
         }

@@ -9,20 +9,33 @@ loop-row-init g c = record {
   marked =
       marks-none c.args.view.now c.args.low c.args.high c.args.area c.args.rows.from c.args.scratch.now
       c.requires.held c.requires.crossed.before;
+  place = tt;
   cost = omega arith;
 }
 
+pub column_at-column-requires-clause-low : goal.column_at-column-requires-clause-low
+column_at-column-requires-clause-low g c =
+    let told = c.loop-row.invariant in
+    let less : c.loop-row.row < c.args.rows.end = omega (arith, c.loop-row-test.true, c.loop-row.auto.row-end) in
+    let ends =
+    rows-low c.args.view.now c.args.low c.args.high c.args.area c.args.rows c.loop-row.row c.requires.crossed
+    c.requires.rises told.north less in
+    ends.0
+
+pub column_at-column-requires-clause-high : goal.column_at-column-requires-clause-high
+column_at-column-requires-clause-high g c =
+    let told = c.loop-row.invariant in
+    let less : c.loop-row.row < c.args.rows.end = omega (arith, c.loop-row-test.true, c.loop-row.auto.row-end) in
+    let ends =
+    rows-low c.args.view.now c.args.low c.args.high c.args.area c.args.rows c.loop-row.row c.requires.crossed
+    c.requires.rises told.north less in
+    ends.1
+
 pub put_mark-requires-clause-mark : goal.put_mark-requires-clause-mark
 put_mark-requires-clause-mark g c =
-    let v = c.args.view.now in
-    let area = c.args.area in
-    let row = c.loop-row.row in
     let told = c.loop-row.invariant in
-    let less : row < c.args.rows.end = omega (arith, c.loop-row-test.true, c.loop-row.auto.row-end) in
-    let ends =
-    rows-low v c.args.low c.args.high area c.args.rows row c.requires.crossed c.requires.rises told.north less in
-    let falls =
-    c.column_of_crossing-column.ensures area.columns c.requires.area.columns_in c.requires.between ends.0 ends.1 in
+    let less : c.loop-row.row < c.args.rows.end = omega (arith, c.loop-row-test.true, c.loop-row.auto.row-end) in
+    let falls = c.column_at-column.ensures in
     record {
       north = omega (arith, told.north, c.requires.crossed.north);
       south = omega (arith, less, c.requires.crossed.south);
@@ -32,20 +45,14 @@ put_mark-requires-clause-mark g c =
 
 pub loop-row-preserved : goal.loop-row-preserved
 loop-row-preserved g c =
-    let v = c.args.view.now in
-    let area = c.args.area in
-    let row = c.loop-row.row in
     let told = c.loop-row.invariant in
-    let less : row < c.args.rows.end = omega (arith, c.loop-row-test.true, c.loop-row.auto.row-end) in
-    let ends =
-    rows-low v c.args.low c.args.high area c.args.rows row c.requires.crossed c.requires.rises told.north less in
     record {
       north = omega (arith, told.north);
       marked =
-          marks-row v c.args.low c.args.high area row c.column_of_crossing-column.result c.args.scratch.now
-          c.loop-row.scratch c.put_mark.new.scratch
-          (c.column_of_crossing-column.ensures area.columns c.requires.area.columns_in c.requires.between ends.0 ends.1)
-          told.marked c.in_ok-put_mark.ensures;
+          marks-row c.args.view.now c.args.low c.args.high c.args.area c.loop-row.row c.column_at-column.result
+          c.args.scratch.now c.loop-row.scratch c.put_mark.new.scratch c.column_at-column.ensures told.marked
+          c.in_ok-put_mark.ensures;
+      place = c.next_place-place.ensures;
       cost = omega (arith, told.cost, c.tick.ensures);
     }
 

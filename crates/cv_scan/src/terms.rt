@@ -1,0 +1,280 @@
+//! Where a long edge crosses the heights of rows, each found from the one above it without a search.
+
+ghost use Rattle.std.specs.Prelude.{◌≡◌, ℕ, ◌≤◌, ◌<◌, ◌+◌, ◌^◌, IfSome, true, false, pos, negsuc, neg_ℤ, ◌≤ℤ◌, ◌+ℤ◌, ◌-ℤ◌, ◌*ℤ◌, unsigned_abs};
+ghost use Rattle.cv_model.specs.Positions.{Position, doubled};
+ghost use Rattle.cv_model.specs.Polygons.{is_crossed, is_low};
+ghost use Rattle.cv_model.specs.Views.{PixelGrid, centre_of};
+ghost use Rattle.cv_geom.specs.Falls.{FallsAt};
+ghost use Rattle.cv_scan.specs.Marks.{IsBetween};
+ghost use Rattle.cv_scan.specs.Terms.{IsNearest, IsPlace, IsSlope};
+
+use crate::crossings::column_of_crossing;
+use cv_geom::{centre, distance, distance_to, product};
+use cv_model::{Point, Point2, Span, View};
+
+/// Where a line crosses the height of a row: `column` is the first one whose centre doesn't lie left of it, in
+/// the view or outside, and `over` how far east of the line that lies, times the line's way up.
+#[derive(Clone, Copy, Debug, PartialEq, Eq)]
+pub struct Place {
+    pub column: i64,
+    pub over: i128,
+}
+
+/// How far a line leads eastwards from the height of a row to that of the row below: so many columns, less a
+/// part of one, which `whole` is.
+#[derive(Clone, Copy, Debug, PartialEq, Eq)]
+pub struct Slope {
+    pub columns: i64,
+    pub part: i128,
+    pub whole: i128,
+}
+
+/// The slope of the line from a point up to another, if it crosses the heights of more than five rows: for
+/// fewer a search in each is faster.
+pub fn long_slope(low: Point, high: Point, view: &View, rows: Span) -> Option<Slope>
+    requires { rows.from ≤ rows.end }
+    ensures { IfSome result (λ slope. IsSlope view.now (doubled low) (doubled high) slope) }
+{
+    if rows.end - rows.from <= 5 {
+        None
+    } else {
+        slope_of(low, high, view)
+    }
+}
+
+/// The slope of the line from a point up to another; none where it doesn't lead up, or is too flat to be
+/// counted in columns.
+fn slope_of(low: Point, high: Point, view: &View) -> Option<Slope>
+    ensures { IfSome result (λ slope. IsSlope view.now (doubled low) (doubled high) slope) }
+{
+    let side = side(view);
+    let (dx, dy) = (across(low, high), up(low, high));
+    let columns = quotient(dx, dy)?;
+    let shift = times(columns, side)?;
+    let part = part_of(dx, side, shift, dy);
+    let whole = product(side, dy);
+    if 0 <= part && part < whole {
+        Some(Slope {
+            columns,
+            part,
+            whole,
+        })
+    } else {
+        None
+    }
+}
+
+/// How far a line leads eastwards.
+fn across(low: Point, high: Point) -> i64
+    ensures value { result ≡ (doubled high).x -ℤ (doubled low).x }
+    ensures bound { unsigned_abs result ≤ 2 ^ 52 }
+{
+    distance(low.x, high.x)
+}
+
+/// How far a line leads upwards.
+fn up(low: Point, high: Point) -> i64
+    ensures value { result ≡ (doubled high).y -ℤ (doubled low).y }
+    ensures bound { unsigned_abs result ≤ 2 ^ 52 }
+{
+    distance(low.y, high.y)
+}
+
+/// The side of a pixel, in doubled millionths.
+fn side(view: &View) -> i64
+    ensures value { result ≡ pos 2 *ℤ view.now.u }
+    ensures bound { unsigned_abs result ≤ 2 ^ 53 }
+{
+    2 * view.u
+}
+
+/// The columns that a line leads westwards while it leads down by one; none where it doesn't lead up. Whoever
+/// calls it sees by what is over that it is right.
+fn quotient(dx: i64, dy: i64) -> Option<i64>
+    requires { unsigned_abs dx ≤ 2 ^ 52 }
+{
+    if 0 < dy {
+        Some((-dx).div_euclid(dy))
+    } else {
+        None
+    }
+}
+
+/// What a way eastwards and a shift are over, times the way up.
+fn part_of(dx: i64, side: i64, shift: i64, dy: i64) -> i128
+    requires across { unsigned_abs dx ≤ 2 ^ 52 }
+    requires up { unsigned_abs dy ≤ 2 ^ 52 }
+    requires side { unsigned_abs side ≤ 2 ^ 53 }
+    ensures { result ≡ neg_ℤ (dx *ℤ side) -ℤ shift *ℤ dy }
+{
+    -product(dx, side) - product(shift, dy)
+}
+
+/// The first of some columns whose centre in a row doesn't lie left of the line from a point up to another: by
+/// the place of its crossing if that is known, else by a search between the columns of the points.
+pub fn column_at(
+    place: Option<Place>,
+    low: Point,
+    high: Point,
+    view: &View,
+    row: u32,
+    columns: Span,
+    between: Span,
+) -> u32
+    requires row { row < view.now.h }
+    requires order { columns.from ≤ columns.end }
+    requires within { columns.end ≤ view.now.w }
+    requires between { IsBetween view.now low high columns between }
+    requires low { is_low (centre_of view.now 0 row) (doubled low) ≡ true }
+    requires high { is_low (centre_of view.now 0 row) (doubled high) ≡ false }
+    requires place { IfSome place (λ place. IsPlace view.now (doubled low) (doubled high) row place) }
+    ensures { FallsAt (λ i. is_crossed (centre_of view.now i row) (low, high)) columns.from columns.end result }
+{
+    let _unit = view.u;
+    match place {
+        Some(place) => nearest(place.column, columns),
+        None => column_of_crossing(low, high, view, row, between),
+    }
+}
+
+/// The column among some that is nearest to a number; it may be the end of them.
+fn nearest(column: i64, columns: Span) -> u32
+    requires { columns.from ≤ columns.end }
+    ensures { IsNearest columns column result }
+{
+    if column < i64::from(columns.from) {
+        columns.from
+    } else if column < i64::from(columns.end) {
+        column as u32
+    } else {
+        columns.end
+    }
+}
+
+/// The place of a line's crossing with the height of the row below, if it is known: from the one in the row, or
+/// from the column that was found there.
+pub fn next_place(
+    place: Option<Place>,
+    slope: Option<Slope>,
+    low: Point,
+    high: Point,
+    view: &View,
+    row: u32,
+    column: u32,
+) -> Option<Place>
+    requires row { row < view.now.h }
+    requires slope { IfSome slope (λ slope. IsSlope view.now (doubled low) (doubled high) slope) }
+    requires place { IfSome place (λ place. IsPlace view.now (doubled low) (doubled high) row place) }
+    ensures { IfSome result (λ place. IsPlace view.now (doubled low) (doubled high) (row + 1) place) }
+{
+    let _unit = view.u;
+    let slope = slope?;
+    let here = known_place(place, &slope, low, high, view, row, column)?;
+    below(here, &slope)
+}
+
+/// A place, or that of a column in a row if it is the first one whose centre doesn't lie left of the line.
+fn known_place(
+    place: Option<Place>,
+    slope: &Slope,
+    low: Point,
+    high: Point,
+    view: &View,
+    row: u32,
+    column: u32,
+) -> Option<Place>
+    requires row { row < view.now.h }
+    requires slope { IsSlope view.now (doubled low) (doubled high) slope.now }
+    requires place { IfSome place (λ place. IsPlace view.now (doubled low) (doubled high) row place) }
+    ensures { IfSome result (λ place. IsPlace view.now (doubled low) (doubled high) row place) }
+{
+    match place {
+        Some(place) => Some(place),
+        None => place_of(slope, low, high, view, row, column),
+    }
+}
+
+/// The place of a column in a row, if it is the first one whose centre doesn't lie left of the line.
+fn place_of(
+    slope: &Slope,
+    low: Point,
+    high: Point,
+    view: &View,
+    row: u32,
+    column: u32,
+) -> Option<Place>
+    requires row { row < view.now.h }
+    requires slope { IsSlope view.now (doubled low) (doubled high) slope.now }
+    ensures { IfSome result (λ place. IsPlace view.now (doubled low) (doubled high) row place) }
+{
+    if view.w <= column {
+        return None;
+    }
+    let over = way_east(low, high, centre(view, column, row));
+    if 0 <= over && over < slope.whole {
+        Some(Place {
+            column: i64::from(column),
+            over,
+        })
+    } else {
+        None
+    }
+}
+
+/// How far a position lies east of the line from a point up to another, times the line's way up.
+fn way_east(low: Point, high: Point, p: Point2) -> i128
+    ensures { result
+        ≡ (p.x -ℤ (doubled low).x) *ℤ ((doubled high).y -ℤ (doubled low).y)
+        -ℤ ((doubled high).x -ℤ (doubled low).x) *ℤ (p.y -ℤ (doubled low).y) }
+{
+    run_at(low, high, p) - rise_at(low, high, p)
+}
+
+/// How far a position lies east of a point, times the way up to another.
+fn run_at(low: Point, high: Point, p: Point2) -> i128
+    ensures value { result ≡ (p.x -ℤ (doubled low).x) *ℤ ((doubled high).y -ℤ (doubled low).y) }
+    ensures bound { unsigned_abs result ≤ 2 ^ 124 }
+{
+    product(distance_to(low.x, p.x), distance(low.y, high.y))
+}
+
+/// How far a position lies above a point, times the way eastwards to another.
+fn rise_at(low: Point, high: Point, p: Point2) -> i128
+    ensures value { result ≡ ((doubled high).x -ℤ (doubled low).x) *ℤ (p.y -ℤ (doubled low).y) }
+    ensures bound { unsigned_abs result ≤ 2 ^ 124 }
+{
+    product(distance(low.x, high.x), distance_to(low.y, p.y))
+}
+
+/// The place in the row below.
+fn below(place: Place, slope: &Slope) -> Option<Place>
+    requires over { pos 0 ≤ℤ place.over }
+    requires part { pos 0 ≤ℤ slope.now.part }
+    requires whole { pos 0 ≤ℤ slope.now.whole }
+    ensures { (v : PixelGrid) (a b : Position) (row : ℕ) → pos 1 ≤ℤ v.u → IsSlope v a b slope.now
+        → IsPlace v a b row place → IfSome result (λ place. IsPlace v a b (row + 1) place) }
+{
+    let column = sum(place.column, slope.columns)?;
+    let over = place.over - slope.part;
+    if 0 <= over {
+        return Some(Place { column, over });
+    }
+    Some(Place {
+        column: sum(column, 1)?,
+        over: over + slope.whole,
+    })
+}
+
+/// The sum of two numbers, if it is one of 64 bits.
+fn sum(a: i64, b: i64) -> Option<i64>
+    ensures { IfSome result (λ n. n ≡ a +ℤ b) }
+{
+    a.checked_add(b)
+}
+
+/// The product of two numbers, if it is one of 64 bits.
+fn times(a: i64, b: i64) -> Option<i64>
+    ensures { IfSome result (λ n. n ≡ a *ℤ b) }
+{
+    a.checked_mul(b)
+}
