@@ -1,8 +1,9 @@
--- Lemmas on the way through the bytes, on digits, on the header, on the cells, on sizes, on the grammar,
--- and on the answer.
+-- Lemmas on the way through the bytes, on digits, on short cells, on the header, on the cells, on sizes, on
+-- the grammar, and on the answer.
 pub mod ScanLemmas
 pub mod DigitLemmas
 pub mod HeaderLemmas
+pub mod WindowLemmas
 pub mod CellLemmas
 pub mod LayoutLemmas
 pub mod GrammarLemmas

@@ -24,6 +24,7 @@ mod numbers;
 mod settings;
 mod token;
 mod value;
+mod window;
 mod word;
 
 use crate::grid::read_grid;

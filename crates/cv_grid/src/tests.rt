@@ -33,7 +33,7 @@ fn found(alloc: Global, bytes: &[u8]) -> Result<String, Fail> {
 
 #[test]
 fn headers_lay_out_the_cells(rt: HostRuntime) -> Result<(), Fail> {
-    let rows: [(&[u8], &str); 13] = [
+    let rows: [(&[u8], &str); 8] = [
         (
             b"ncols 2 nrows 2 xllcorner 0 yllcorner 0 cellsize 1 1 2 3 4",
             "2x2 0 0 1000000 1000000: 1000000 2000000 3000000 4000000",
@@ -66,6 +66,16 @@ fn headers_lay_out_the_cells(rt: HostRuntime) -> Result<(), Fail> {
             b"ncols 1 nrows 1 xllcorner 999999999 yllcorner -1000000000 cellsize 1 1",
             "1x1 1999999998000000 -2000000000000000 1000000 1000000: 1000000",
         ),
+    ];
+    for (bytes, want) in rows {
+        assert_eq!(rt; found(rt.alloc(), bytes)?.as_str(), want);
+    }
+    Ok(())
+}
+
+#[test]
+fn too_many_cells_and_edges_out_of_range_are_refused(rt: HostRuntime) -> Result<(), Fail> {
+    let rows: [(&[u8], &str); 5] = [
         (
             b"ncols 1 nrows 1 xllcorner 1000000000 yllcorner 0 cellsize 1 1",
             "TooLarge",
@@ -95,7 +105,7 @@ fn headers_lay_out_the_cells(rt: HostRuntime) -> Result<(), Fail> {
 
 #[test]
 fn values_are_the_cells_from_the_north_west(rt: HostRuntime) -> Result<(), Fail> {
-    let rows: [(&[u8], &str); 12] = [
+    let rows: [(&[u8], &str); 7] = [
         (
             b"ncols 3 nrows 2 xllcorner 0 yllcorner 0 cellsize 1 -9999 -9999.0 nan 1e1 .5 +2",
             "3x2 0 0 1000000 1000000: - - - 10000000 500000 2000000",
@@ -125,6 +135,16 @@ fn values_are_the_cells_from_the_north_west(rt: HostRuntime) -> Result<(), Fail>
             b"ncols 3 nrows 1 xllcorner 0 yllcorner 0 cellsize 1 999999999 0000000001 1234567890",
             "3x1 0 0 1000000 1000000: 999999999000000 1000000 1000000000000000",
         ),
+    ];
+    for (bytes, want) in rows {
+        assert_eq!(rt; found(rt.alloc(), bytes)?.as_str(), want);
+    }
+    Ok(())
+}
+
+#[test]
+fn cells_that_are_none_too_few_or_too_many_are_refused(rt: HostRuntime) -> Result<(), Fail> {
+    let rows: [(&[u8], &str); 5] = [
         (
             b"ncols 2 nrows 2 xllcorner 0 yllcorner 0 cellsize 1 1 2 3",
             "TooFew(3)",
@@ -153,8 +173,8 @@ fn values_are_the_cells_from_the_north_west(rt: HostRuntime) -> Result<(), Fail>
 }
 
 #[test]
-fn the_first_wrong_token_of_a_header_decides(rt: HostRuntime) -> Result<(), Fail> {
-    let rows: [(&[u8], &str); 41] = [
+fn the_first_missing_word_of_a_header_decides(rt: HostRuntime) -> Result<(), Fail> {
+    let rows: [(&[u8], &str); 12] = [
         (b"", "MissingWord(Ncols)"),
         (b" \n\t", "MissingWord(Ncols)"),
         (b"1 2", "MissingWord(Ncols)"),
@@ -185,6 +205,16 @@ fn the_first_wrong_token_of_a_header_decides(rt: HostRuntime) -> Result<(), Fail
             b"ncols 2 nrows 2 yllcorner 0 dy 1 1 2 3 4",
             "MissingWord(Xll)",
         ),
+    ];
+    for (bytes, want) in rows {
+        assert_eq!(rt; found(rt.alloc(), bytes)?.as_str(), want);
+    }
+    Ok(())
+}
+
+#[test]
+fn the_first_wrong_token_of_a_header_decides(rt: HostRuntime) -> Result<(), Fail> {
+    let rows: [(&[u8], &str); 29] = [
         (b"foo 1", "BadWord(1)"),
         (b"foo 1 ncols 0", "BadWord(1)"),
         (b"ncols 0 foo 1", "BadNumber(6)"),
@@ -218,5 +248,15 @@ fn the_first_wrong_token_of_a_header_decides(rt: HostRuntime) -> Result<(), Fail
     for (bytes, want) in rows {
         assert_eq!(rt; found(rt.alloc(), bytes)?.as_str(), want);
     }
+    Ok(())
+}
+
+#[test]
+fn short_cells_are_read_four_at_a_time(rt: HostRuntime) -> Result<(), Fail> {
+    let text = b"ncols 4 nrows 3 xllcorner 0 yllcorner 0 cellsize 1 nodata_value 22 \
+                 1 22 333 4\n55 666 7 88\n999 0 -10 012 \n";
+    let want = "4x3 0 0 1000000 1000000: 1000000 - 333000000 4000000 55000000 666000000 \
+                7000000 88000000 999000000 0 -10000000 12000000";
+    assert_eq!(rt; found(rt.alloc(), text)?.as_str(), want);
     Ok(())
 }

@@ -55,7 +55,7 @@ fn ends_before(text: &[u8], at: usize) -> bool
 
 /// A whole number in millionths.
 #[inline]
-fn millionths(number: u32) -> i64
+pub fn millionths(number: u32) -> i64
     requires { number < 1000000000 }
     ensures { result ≡ pos (1000000 * number) }
 {
