@@ -190,57 +190,86 @@ fn a_file_is_missing_only_where_it_is_absent(rt: HostRuntime) -> Result<(), Fail
     Ok(())
 }
 
-#[test]
-fn each_device_fails_in_turn(rt: HostRuntime) -> Result<(), Fail> {
-    let alloc = rt.alloc();
-    let picture = pixmap(alloc, "4 4", "..../.##./.##./....", RED)?;
-    let (whole, old) = (picture.as_slice(), b"old".as_slice());
-    let text = "WriteFault(Text)";
-    // the file's name, the calls that fail, the sink's limits; the end, the picture, the text
-    let rows = [
-        ("sq.csv", 0, 0, 0, ALL, ALL, "Done", whole, "image 4 4\n"),
-        ("sq.csv", 1, 0, 0, ALL, ALL, "ReadFault(Layer(0))", old, ""),
-        ("other", 0, 0, 0, ALL, ALL, "Missing(Layer(0))", old, ""),
-        (
-            "sq.csv",
-            0,
-            1,
-            0,
-            ALL,
-            ALL,
-            "WriteFault(Output(1))",
-            old,
-            "",
-        ),
-        ("sq.csv", 0, 0, 1, ALL, ALL, text, whole, ""),
-        ("sq.csv", 0, 0, 0, 1, ALL, "Done", whole, "image 4 4\n"),
-        ("sq.csv", 0, 0, 3, 2, ALL, text, whole, "imag"),
-        ("sq.csv", 0, 0, 0, ALL, 7, text, whole, "image 4"),
-    ];
-    for (name, read, write, print, piece, room, end, kept, printed) in rows {
-        let mut shelf = MemShelf::new(
-            alloc,
-            one_file(alloc, name, SQUARE.as_bytes())?,
-            Vec::from_slice(alloc, &[read])?,
-        );
-        let mut tray = MemTray::new(
-            alloc,
-            one_file(alloc, "sq.ppm", b"old")?,
-            Vec::from_slice(alloc, &[write])?,
-        );
-        let mut out = MemSink::new(Vec::new(alloc), Vec::from_slice(alloc, &[print])?).with_limits(
-            piece, room,
-        );
-        let end_found = play_with(&rt, alloc, FOUR, &mut shelf, &mut tray, &mut out);
-        assert_eq!(rt;
-            shown(alloc, &end_found)?.as_str(),
-            end,
-            "{name} {read} {write} {print} {piece} {room}"
-        );
-        assert_eq!(rt; tray.file("sq.ppm"), Some(kept), "{end}");
-        assert_eq!(rt; out.bytes(), printed.as_bytes(), "{end}");
-        assert_eq!(rt; shelf.asked().len(), 1, "{end}");
+// What stands under the picture's name.
+fn kept(tray: &MemTray, whole: &[u8]) -> &'static str {
+    match tray.file("sq.ppm") {
+        Some(bytes) => {
+            if bytes == whole {
+                "whole"
+            } else if bytes == b"old".as_slice() {
+                "old"
+            } else {
+                "other"
+            }
+        }
+        None => "none",
     }
+}
+
+// How a run ends whose layer has this name, where the reads, writes and pieces of text of these numbers fail,
+// and the sink takes so many bytes at a time and so many in all: the end, how many names were asked, what
+// stands under the picture's name, and the text.
+fn failed<R: Threads + Wait + Sync>(
+    rt: &R,
+    alloc: Global,
+    name: &str,
+    fails: [u64; 3],
+    limits: [u64; 2],
+) -> Result<String, AllocError> {
+    let [read, write, print] = fails;
+    let [piece, room] = limits;
+    let files = one_file(alloc, name, SQUARE.as_bytes())?;
+    let mut shelf = MemShelf::new(alloc, files, Vec::from_slice(alloc, &[read])?);
+    let old = one_file(alloc, "sq.ppm", b"old")?;
+    let mut tray = MemTray::new(alloc, old, Vec::from_slice(alloc, &[write])?);
+    let sink = MemSink::new(Vec::new(alloc), Vec::from_slice(alloc, &[print])?);
+    let mut out = sink.with_limits(piece, room);
+    let end = play_with(rt, alloc, FOUR, &mut shelf, &mut tray, &mut out);
+    let asked = shelf.asked().len();
+    let whole = pixmap(alloc, "4 4", "..../.##./.##./....", RED)?;
+    let kept = kept(&tray, whole.as_slice());
+    let printed = String::from_utf8_lossy(alloc, out.bytes())?;
+    let text = format!(in alloc; "{end:?} {asked} {kept} {printed}")?;
+    Ok(text)
+}
+
+#[test]
+fn no_device_fails(rt: HostRuntime) -> Result<(), Fail> {
+    let alloc = rt.alloc();
+    let found = failed(&rt, alloc, "sq.csv", [0, 0, 0], [ALL, ALL])?;
+    assert_eq!(rt; found.as_str(), "Done 1 whole image 4 4\n");
+    let found = failed(&rt, alloc, "sq.csv", [0, 0, 0], [1, ALL])?;
+    assert_eq!(rt; found.as_str(), "Done 1 whole image 4 4\n");
+    Ok(())
+}
+
+#[test]
+fn the_shelf_fails(rt: HostRuntime) -> Result<(), Fail> {
+    let alloc = rt.alloc();
+    let found = failed(&rt, alloc, "sq.csv", [1, 0, 0], [ALL, ALL])?;
+    assert_eq!(rt; found.as_str(), "ReadFault(Layer(0)) 1 old ");
+    let found = failed(&rt, alloc, "other", [0, 0, 0], [ALL, ALL])?;
+    assert_eq!(rt; found.as_str(), "Missing(Layer(0)) 1 old ");
+    Ok(())
+}
+
+#[test]
+fn the_tray_fails(rt: HostRuntime) -> Result<(), Fail> {
+    let alloc = rt.alloc();
+    let found = failed(&rt, alloc, "sq.csv", [0, 1, 0], [ALL, ALL])?;
+    assert_eq!(rt; found.as_str(), "WriteFault(Output(1)) 1 old ");
+    Ok(())
+}
+
+#[test]
+fn the_sink_fails(rt: HostRuntime) -> Result<(), Fail> {
+    let alloc = rt.alloc();
+    let found = failed(&rt, alloc, "sq.csv", [0, 0, 1], [ALL, ALL])?;
+    assert_eq!(rt; found.as_str(), "WriteFault(Text) 1 whole ");
+    let found = failed(&rt, alloc, "sq.csv", [0, 0, 3], [2, ALL])?;
+    assert_eq!(rt; found.as_str(), "WriteFault(Text) 1 whole imag");
+    let found = failed(&rt, alloc, "sq.csv", [0, 0, 0], [ALL, 7])?;
+    assert_eq!(rt; found.as_str(), "WriteFault(Text) 1 whole image 4");
     Ok(())
 }
 
