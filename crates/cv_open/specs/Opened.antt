@@ -15,7 +15,10 @@ use Rattle.cv_grid.specs.declared.error.GridError.{GridError}
 use Rattle.cv_model.specs.Features.{FeatureTable}
 use Rattle.cv_model.specs.declared.delimiter.Delimiter.{Delimiter}
 use Rattle.cv_model.specs.Grids.{CellGrid}
+use Rattle.cv_model.specs.Layers.{Opening}
+use Rattle.cv_model.specs.Openings.{opening_of, first_views}
 use Rattle.cv_model.specs.ProjectFiles.{FileParts}
+use Rattle.cv_model.specs.Views.{PixelGrid}
 use Rattle.cv_model.specs.declared.layer.LayerData.{LayerData}
 use Rattle.cv_model.specs.declared.layer.LayerData.TheVariants as contents
 use Rattle.cv_model.specs.declared.project.LayerFile.{LayerFile}
@@ -128,3 +131,13 @@ layers_of file =
 -- the project of this name is opened: it is read, and then all its layers
 abbrev pub opened : List ℕ → Reads Opened
 opened name = project_read name >>= layers_of
+
+-- ---- what was read opens
+
+-- the project of what was read, and the canvases that show it
+abbrev pub opening_in : Opened → Opening
+opening_in read = opening_of read.file read.contents
+
+-- what the canvases show at first
+abbrev pub views_in : Opened → List (Option PixelGrid)
+views_in read = first_views read.file

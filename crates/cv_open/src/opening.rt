@@ -1,6 +1,7 @@
 //! A project is opened: its file is read, and then all its layers.
 
 ghost use Rattle.std.specs.Prelude.{◌≤◌, length, codes, Err, IfOk, List, [], ℕ};
+ghost use Rattle.cv_model.specs.Openings.{CanOpen};
 ghost use Rattle.cv_model.specs.ProjectFiles.{IsInForm};
 ghost use Rattle.cv_outside.specs.Seen.{shelf_seen, ShelfStands};
 ghost use Rattle.cv_open.specs.Opened.{most_project, project_in, project_of, as_project, project_read};
@@ -113,6 +114,7 @@ fn with_layers<F: Shelf>(alloc: Global, shelf: &mut F, file: ProjectFile) -> Res
     ensures read { IsReadAs (layers_of file) result
         (shelf_seen F.Shelf shelf.old) (shelf_seen F.Shelf shelf.new) }
     ensures form { IfOk result (λ opened. IsInForm opened.file) }
+    ensures can { IfOk result (λ opened. CanOpen opened.file opened.contents) }
 {
     match read_layers(alloc, shelf, file.layers()) {
         Ok(contents) => Ok(Opened { file, contents }),
@@ -121,13 +123,14 @@ fn with_layers<F: Shelf>(alloc: Global, shelf: &mut F, file: ProjectFile) -> Res
 }
 
 /// Reads a project and all its layers, each file once: the project's first, and then one for each layer in the
-/// order of the file.
+/// order of the file. What is answered is in form and passes no limit, so that it can be opened.
 #[tactic(auto, using(crate::proofs::ReadingLemmas::stands_on))]
 pub fn open<F: Shelf>(alloc: Global, shelf: &mut F, name: &str) -> Result<Opened, End>
     ensures stands { ShelfStands (shelf_seen F.Shelf shelf.old) (shelf_seen F.Shelf shelf.new) }
     ensures read { IsReadAs (opened name.now) result
         (shelf_seen F.Shelf shelf.old) (shelf_seen F.Shelf shelf.new) }
     ensures form { IfOk result (λ opened. IsInForm opened.file) }
+    ensures can { IfOk result (λ opened. CanOpen opened.file opened.contents) }
 {
     match read_project(alloc, shelf, name) {
         Ok(file) => with_layers(alloc, shelf, file),
