@@ -14,8 +14,9 @@ use std::io::Write;
 use std::process::ExitCode;
 
 /// The forms of the commands, one a line.
-const FORMS: &str =
-    "quick <csv> <out> <w> <h> <xmin> <ymin> <xmax> <ymax> <rrggbb>\ncheck <project>\npaint <project> <canvas> <out>";
+const FORMS: &str = "quick <csv> <out> <w> <h> <xmin> <ymin> <xmax> <ymax> <rrggbb>\n\
+    check <project>\n\
+    paint <project> <canvas> <out>";
 
 /// The files that a command was at when it ended.
 #[derive(Clone, Copy)]
