@@ -6,3 +6,4 @@ pub mod CrossingLemmas
 pub mod PlaneLemmas
 pub mod HeldLemmas
 pub mod TermLemmas
+pub mod BlockLemmas

@@ -6,3 +6,4 @@ pub mod Fills
 pub mod Planes
 pub mod Held
 pub mod Terms
+pub mod Blocks

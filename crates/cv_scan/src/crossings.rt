@@ -24,7 +24,7 @@ pub fn row_of(point: Point, view: &View, sides: &Multiples, rows: Span) -> u32
 }
 
 /// The first of some columns whose centres don't lie left of a point; the end of the columns if all do.
-fn column_of(point: Point, view: &View, sides: &Multiples, columns: Span) -> u32
+pub fn column_of(point: Point, view: &View, sides: &Multiples, columns: Span) -> u32
     requires sides { pos sides.now ≡ pos 2 *ℤ view.now.u }
     requires order { columns.from ≤ columns.end }
     requires within { columns.end ≤ view.now.w }

@@ -8,6 +8,7 @@
 //! `spans`, `spans_in` and `fill_runs` take memory; no handle is needed.
 #![tactic(auto)]
 
+mod blocks;
 mod crossings;
 mod fills;
 mod held;

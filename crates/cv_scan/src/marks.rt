@@ -15,7 +15,7 @@ use crate::crossings::{columns_between, row_of};
 use crate::held::put_mark;
 use crate::scratch::Scratch;
 use crate::terms::{Place, Slope, column_at, long_slope, next_place};
-use cv_geom::{Area, Multiples, Run, Runs, Steps, doubled_sides};
+use cv_geom::{Area, Multiples, Run, Runs, Steps};
 use cv_model::{NoMemory, Point, Polygon, Span, View};
 use std::sync::ledger::Ledger;
 
@@ -31,9 +31,11 @@ pub fn put_marks<L: Ledger>(
     scratch: &mut Scratch,
     polygon: &Polygon,
     view: &View,
+    sides: &Multiples,
     area: Area,
     steps: &mut Steps<L>,
 ) -> Result<(), NoMemory>
+    requires sides { pos sides.now ≡ pos 2 *ℤ view.now.u }
     requires area { IsArea view.now.w view.now.h area }
     requires held { IsHeld area scratch.old }
     ensures marked { OnOk result (AddsMarks
@@ -41,9 +43,8 @@ pub fn put_marks<L: Ledger>(
         scratch.old scratch.new) }
     ensures cost { steps.new ≤ steps.old + length (flat_map edges polygon.now) * rows_of area }
 {
-    let sides = doubled_sides(view);
     for ring in polygon.as_slice() {
-        put_ring(scratch, ring.as_slice(), view, &sides, area, steps)?;
+        put_ring(scratch, ring.as_slice(), view, sides, area, steps)?;
     }
     Ok(())
 }

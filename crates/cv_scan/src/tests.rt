@@ -248,3 +248,16 @@ fn runs_of_random_polygons(rt: HostRuntime) -> Result<(), Fail> {
     }
     Ok(())
 }
+
+#[test]
+fn runs_of_rectangles(rt: HostRuntime) -> Result<(), Fail> {
+    let alloc = rt.alloc();
+    let mut first = Polygon::new(alloc);
+    first.put(ring(alloc, &[at(1, 3), at(5, 3), at(5, 7), at(1, 7), at(1, 3)])?)?;
+    let mut second = Polygon::new(alloc);
+    second.put(ring(alloc, &[at(3, 1), at(3, 6), at(8, 6), at(8, 1), at(3, 1)])?)?;
+    let polygons = [first, second];
+    assert_runs(&rt, alloc, &polygons, &FOUR_BY_FOUR, whole(&FOUR_BY_FOUR))?;
+    assert_runs(&rt, alloc, &polygons, &FOUR_BY_FOUR, part(&FOUR_BY_FOUR))?;
+    Ok(())
+}

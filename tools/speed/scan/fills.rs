@@ -57,14 +57,14 @@ fn ring(count: u64) -> Vec<Point> {
     points
 }
 
-/// A ring that goes up and down between the lower and the upper rows.
+/// A ring that goes up and down between the lower and the upper rows, each time by another slope.
 fn zigzag(count: u64) -> Vec<Point> {
     let mut seed = 17u64;
     let mut points = Vec::new();
     for i in 0..count {
         seed = seed.wrapping_mul(6_364_136_223_846_793_005).wrapping_add(1_442_695_040_888_963_407);
         let depth = 12_000_000 + ((seed >> 33) % 400_000_000) as i64 / 400;
-        let x = 500_000 * i as i64;
+        let x = (i * 7_919 % 2_000 * 500_000) as i64;
         points.push(Point { x, y: if i % 2 == 0 { depth } else { 1_000_000_000 - depth } });
     }
     points
