@@ -64,8 +64,8 @@ fn cell(void: Option<i64>, value: Fixed) -> Cell
     }
 }
 
-/// Puts up to four cells from an offset on, each of one to three digits before a space, as far as there are
-/// such. Answers where it stopped.
+/// Puts up to eight cells from an offset on, each of one to three digits before a space, as far as there are
+/// such; none near the end of the text. Answers where it stopped.
 #[inline]
 fn put_short(
     text: &[u8],
@@ -78,10 +78,13 @@ fn put_short(
     requires few { length cells.old ≤ total }
     ensures { IfOk result (λ at. CellsAlong text.now start total void cells.old at cells.new) }
 {
+    if start < 2 || text.len() - start <= 64 {
+        return Ok(start);
+    }
     let mut at = start;
     let mut ends = guessed_ends(text, start);
-    for _ in 0..4u32 {
-        let end = start.wrapping_add(ends.trailing_zeros() as usize);
+    for _ in 0..8u32 {
+        let end = start + ends.trailing_zeros() as usize;
         if cells.len() == u64::from(total) {
             return Ok(at);
         }

@@ -1,21 +1,18 @@
-//! The cells of one to three digits, sixteen bytes at a time.
+//! The cells of one to three digits, thirty-two bytes at a time.
 
-ghost use Rattle.std.specs.Prelude.{◌≡◌, ◌≤◌, ◌-◌, length, IfSome};
+ghost use Rattle.std.specs.Prelude.{◌≡◌, ◌≤◌, ◌<◌, ◌+◌, ◌-◌, length, IfSome};
 ghost use Rattle.cv_grid.specs.Scanning.{IsDigit, AreJoined, IsShort};
 
 use std::simd::prelude::*;
 
-/// Where spaces stand among the next sixteen bytes: a bit for each byte, the lowest for the first; 0 near the
-/// end. No more than a guess where the next tokens end, which spares a search: each is tested.
+/// Where spaces stand among the next thirty-two bytes: a bit for each byte, the lowest for the first. No more
+/// than a guess where the next tokens end, which spares a search: each is tested.
 #[inline]
 pub fn guessed_ends(text: &[u8], at: usize) -> u64
-    requires { at ≤ length text.now }
+    requires { at + 32 ≤ length text.now }
 {
-    if text.len() - at < 16 {
-        return 0;
-    }
-    u8x16::from_slice(&text[at..])
-        .simd_eq(u8x16::splat(b' '))
+    u8x32::from_slice(&text[at..])
+        .simd_eq(u8x32::splat(b' '))
         .to_bitmask()
 }
 
@@ -43,9 +40,11 @@ fn joined(size: usize, hundreds: u32, tens: u32, ones: u32) -> Option<u32>
 /// The number of one to three digits from an offset up to a space; `None` where they aren't.
 #[inline]
 pub fn short_number(text: &[u8], at: usize, end: usize) -> Option<u32>
+    requires at { 2 ≤ at }
+    requires end { end < length text.now }
     ensures { IfSome result (IsShort text.now at end) }
 {
-    if end < 3 || end >= text.len() || end <= at {
+    if end <= at {
         return None;
     }
     if end - at > 3 || text[end] != b' ' {
