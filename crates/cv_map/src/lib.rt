@@ -9,3 +9,6 @@ mod picture;
 mod slots;
 
 pub use picture::{paint, paint_bytes};
+
+#[cfg(test)]
+mod tests;
