@@ -15,7 +15,9 @@ first_line end = text_of_end end ++ 10 ∷ []
 
 -- the forms of the commands
 abbrev pub forms : List ℕ
-forms = codes "quick <csv> <out> <w> <h> <xmin> <ymin> <xmax> <ymax> <rrggbb>\ncheck <project>"
+forms =
+    codes "quick <csv> <out> <w> <h> <xmin> <ymin> <xmax> <ymax> <rrggbb>\ncheck <project>\n"
+    ++ codes "paint <project> <canvas> <out>"
 
 -- a second line where it helps: the forms of the commands; the name last read, with why its bytes were refused;
 -- the name of the file that failed or isn't there; why a project was refused is shown by tests
@@ -23,10 +25,10 @@ abbrev pub IsSecond : End → Names → Option (List ℕ) → Option (List ℕ) 
 IsSecond Usage names old new = Appends old new (forms ++ 10 ∷ [])
 IsSecond (BadProject error) names old new = Unit {0}
 IsSecond (BadData place error) names old new =
-    Appends old new (names.read ++ (codes ": " ++ (text_of_data error ++ 10 ∷ [])))
-IsSecond (ReadFault which) names old new = Appends old new (names.read ++ 10 ∷ [])
-IsSecond (Missing which) names old new = Appends old new (names.read ++ 10 ∷ [])
-IsSecond (WriteFault (Output k)) names old new = Appends old new (names.written ++ 10 ∷ [])
+    Appends old new (names.read.now ++ (codes ": " ++ (text_of_data error ++ 10 ∷ [])))
+IsSecond (ReadFault which) names old new = Appends old new (names.read.now ++ 10 ∷ [])
+IsSecond (Missing which) names old new = Appends old new (names.read.now ++ 10 ∷ [])
+IsSecond (WriteFault (Output k)) names old new = Appends old new (names.written.now ++ 10 ∷ [])
 IsSecond (WriteFault Text) names old new = Appends old new []
 IsSecond (WriteFault (Layer place)) names old new = Appends old new []
 IsSecond (WriteFault Project) names old new = Appends old new []
