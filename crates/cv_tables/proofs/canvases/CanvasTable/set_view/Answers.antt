@@ -1,0 +1,17 @@
+use Rattle.std.proofs.Common.{◌∙◌, ap, sym}
+use Rattle.cv_event.specs.States.{change_at}
+use Rattle.cv_tables.specs.Tabs.{tab_viewed}
+use Rattle.cv_tables.proofs.ListLemmas.{changed, unchanged}
+use Rattle.cv_tables.proofs.TabLemmas.{far}
+use Rattle.cv_tables.proofs.canvases.CanvasTable.set_view.Goals as goal
+
+pub returns-then-canvas-len : goal.returns-then-canvas-len
+returns-then-canvas-len c =
+    changed (tab_viewed c.args.view) c.self.inside.rows.items c.args.canvas c.index_mut.result.now c.set_view.new.self
+    c.index_mut.ensures.value c.set_view.ensures ∙ ap (change_at c.args.canvas (tab_viewed c.args.view)) c.self.view_is
+
+pub returns-else-canvas-len : goal.returns-else-canvas-len
+returns-else-canvas-len c =
+    sym (unchanged (tab_viewed c.args.view) c.args.self.now c.args.canvas
+    (far c.self.inside.rows.items c.args.self.now c.len.result c.args.canvas c.self.view_is
+    (c.len.ensures ∙ c.self.inside.rows.ok.0) c.if-canvas-len.false))

@@ -1,0 +1,16 @@
+use Rattle.cv_tables.specs.Rows.{Row}
+use Rattle.cv_tables.proofs.RowLemmas.{stood_from}
+use Rattle.cv_tables.proofs.row.JobRow.stand.Goals as goal
+
+pub invariant_of-self : goal.invariant_of-self
+invariant_of-self c =
+    let row : Row = record {
+      canvas = c.self.inside.canvas;
+      store = c.self.inside.store.value;
+      view = c.self.inside.view;
+      slots = c.self.inside.slots.items;
+      composer = c.self.inside.composer;
+      ended = c.self.inside.ended;
+    } in
+    stood_from row c.args.self.now c.self.inside.held c.args.at c.args.standing c.stand.new.slots.items c.self.view_is
+    c.requires.old c.requires.new c.stand.ensures c.self.invariant
