@@ -14,6 +14,8 @@ mod named;
 mod pans;
 mod row;
 mod slots;
+#[cfg(test)]
+mod tests;
 
 pub use canvas::{CanvasRow, Published};
 pub use canvases::CanvasTable;
