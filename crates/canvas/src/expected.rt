@@ -8,6 +8,12 @@ fn field_in(path: &str) -> &str {
 /// What is expected at a path of a project's file: the table of docs/FORMATS.md in words.
 pub fn expected(path: &str) -> &'static str {
     let field = field_in(path);
+    if path == "file" {
+        return "at most 16777216 bytes";
+    }
+    if path.ends_with("source.kind") {
+        return "text or grid";
+    }
     if field.starts_with("extent[") {
         return "a decimal from -1000000000 to 1000000000";
     }
@@ -48,7 +54,7 @@ fn of_layers(field: &str) -> &'static str {
 fn of_styles(field: &str) -> &'static str {
     match field {
         "style" => "a style: single, categorised, graduated or, for a grid, ramp",
-        "kind" => "a kind that fits the source",
+        "kind" => "single, categorised or graduated, or for a grid ramp",
         "classes" => "a list of at most 1024 classes",
         "symbol" | "fallback" => "a symbol with fill, pen, marker or none",
         "lower" | "upper" => "a decimal from -1000000000 to 1000000000",
@@ -74,8 +80,7 @@ fn of_project(field: &str) -> &'static str {
         "width" => "a whole number from 1 to 4096",
         "height" => "a whole number from 1 to 4096, and at most 2097152 pixels in all",
         "cache" => "a whole number from 0 to 268435456",
-        "extent" => "four decimals xmin, ymin, xmax and ymax, which show an area",
-        "" => "an object",
-        _ => "at most 16777216 bytes",
+        "extent" => "four decimals xmin, ymin, xmax and ymax, of an area whose view is in range",
+        _ => "an object",
     }
 }

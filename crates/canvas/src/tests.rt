@@ -1,5 +1,6 @@
 //! The command over real files, a writer that fails, and the lines on standard error.
 use crate::end_of_words;
+use crate::expected::expected;
 use crate::files::{FileShelf, FileTray};
 use crate::lines::{Names, conclude};
 use crate::output::Output;
@@ -199,6 +200,22 @@ fn a_refused_project_has_its_place(rt: HostRuntime) -> Result<(), Fail> {
         told(rt.alloc(), &end).as_slice(),
         b"bad project\nsq.csv: no JSON\n".as_slice()
     );
+    Ok(())
+}
+
+#[test]
+fn each_place_has_its_own_expectation(rt: HostRuntime) -> Result<(), Fail> {
+    let style = "single, categorised or graduated, or for a grid ramp";
+    let rows = [
+        ("", "an object"),
+        ("file", "at most 16777216 bytes"),
+        ("layers[2].source.file", "a string of at most 256 bytes"),
+        ("layers[2].source.kind", "text or grid"),
+        ("layers[2].style.kind", style),
+    ];
+    for (path, want) in rows {
+        assert_eq!(rt; expected(path), want);
+    }
     Ok(())
 }
 

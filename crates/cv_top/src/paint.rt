@@ -1,12 +1,15 @@
 //! The command `paint`: a canvas of a project is painted.
 
-ghost use Rattle.std.specs.Prelude.{◌≡◌, IfOk};
+ghost use Rattle.std.specs.Prelude.{◌≡◌, true, IfOk};
+ghost use Rattle.std.specs.List.{list_all};
 ghost use Rattle.cv_model.specs.Openings.{CanOpen};
 ghost use Rattle.cv_open.specs.Opened.{opening_in};
 ghost use Rattle.cv_outside.specs.Seen.{tray_seen, sink_seen};
 ghost use Rattle.cv_store.specs.Stores.{project_of};
 ghost use Rattle.cv_top.specs.Outcomes.{picture_made};
+ghost use Rattle.cv_words.specs.Plain.{is_plain};
 ghost use Rattle.cv_top.specs.Runs.{Untouched, IsWritten, Obeys};
+ghost use Rattle.cv_top.specs.Words.{paint_words};
 
 use crate::orders::{Order, PaintOrder};
 use crate::pictures::write_picture;
@@ -14,6 +17,7 @@ use cv_model::NoMemory;
 use cv_open::{End, Opened, Shown, open_canvas};
 use cv_outside::{Shelf, Sink, Tray};
 use cv_store::Store;
+use cv_words::paint_words;
 use std::alloc::Global;
 
 /// The store of an opened project.
@@ -46,8 +50,9 @@ fn paint_shown<T: Tray, O: Sink>(
     }
 }
 
-/// Opens the project for the canvas, each of its files read once, and paints what the canvas shows at first.
-pub(crate) fn paint<F: Shelf, T: Tray, O: Sink>(
+/// Opens the project for the canvas, a file read once for each layer that names it, and paints what the canvas
+/// shows at first.
+fn paint_canvas<F: Shelf, T: Tray, O: Sink>(
     alloc: Global,
     order: &PaintOrder<'_>,
     shelf: &mut F,
@@ -60,5 +65,32 @@ pub(crate) fn paint<F: Shelf, T: Tray, O: Sink>(
     match open_canvas(alloc, shelf, order.project, order.canvas) {
         Ok(shown) => paint_shown(alloc, shown, order.out, tray, out),
         Err(end) => end,
+    }
+}
+
+/// Has `clap` read the words, and paints the canvas that they name.
+pub(crate) fn paint<F: Shelf, T: Tray, O: Sink>(
+    alloc: Global,
+    order: &PaintOrder<'_>,
+    shelf: &mut F,
+    tray: &mut T,
+    out: &mut O,
+) -> End
+    requires { list_all is_plain (paint_words order.now) ≡ true }
+    ensures { Obeys F.Shelf T.Tray O.Sink (Order.Paint order.now) result
+        shelf.old shelf.new tray.old tray.new out.old out.new }
+{
+    let words = [order.project, order.number, order.out];
+    match paint_words(alloc, words.as_slice()) {
+        Ok(read) => {
+            let order = PaintOrder {
+                project: read.project,
+                number: read.canvas,
+                canvas: order.canvas,
+                out: read.out,
+            };
+            paint_canvas(alloc, &order, shelf, tray, out)
+        }
+        Err(_) => End::NoMemory,
     }
 }
