@@ -80,7 +80,8 @@ pub fn tell<W: Write>(end: &End, names: &Names<'_>, to: &mut W) -> io::Result<()
     second_line(end, names, to)
 }
 
-/// Writes the lines of an end at these files, as far as the writer takes them, and gives the program's status.
+/// Writes the lines of an end at these files, as far as the writer takes them, and gives the program's
+/// status.
 pub fn conclude<W: Write>(end: &End, names: &Names<'_>, to: &mut W) -> ExitCode
     ensures { exit_status result ≡ status_of end.now }
 {

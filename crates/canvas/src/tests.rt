@@ -147,8 +147,8 @@ fn told(alloc: Global, end: &End) -> Vec<u8> {
 #[test]
 fn words_that_are_no_form_have_the_forms(rt: HostRuntime) -> Result<(), Fail> {
     let end = end_of_words(io::ErrorKind::InvalidData);
-    let want =
-        "usage\nquick <csv> <out> <w> <h> <xmin> <ymin> <xmax> <ymax> <rrggbb>\ncheck <project>\npaint <project> <canvas> <out>\n";
+    let want = "usage\nquick <csv> <out> <w> <h> <xmin> <ymin> <xmax> <ymax> <rrggbb>\n\
+        check <project>\npaint <project> <canvas> <out>\n";
     assert_eq!(rt; told(rt.alloc(), &end).as_slice(), want.as_bytes());
     let end = end_of_words(io::ErrorKind::OutOfMemory);
     assert_eq!(rt;

@@ -47,8 +47,8 @@ impl LayerCache {
         }
     }
 
-    /// The image of a layer with these stamps at this view, which moves to the front; `None` exactly where there
-    /// is none. Only what is there can want memory, and a refusal changes nothing.
+    /// The image of a layer with these stamps at this view, which moves to the front; `None` exactly where
+    /// there is none. Only what is there can want memory, and a refusal changes nothing.
     pub fn get(
         &mut self,
         layer: u32,
@@ -65,8 +65,8 @@ impl LayerCache {
         held::get(images, layer, stamps, view)
     }
 
-    /// Puts an image in front, in the place of an older one of its layer, and cuts the others to the capacity.
-    /// A refusal hands it back and changes nothing.
+    /// Puts an image in front, in the place of an older one of its layer, and cuts the others to the
+    /// capacity. A refusal hands it back and changes nothing.
     pub fn put(
         &mut self,
         painted: Shared<PaintedLayer>,

@@ -1,6 +1,7 @@
 //! The cache that holds at least one painted layer.
 
-ghost use Rattle.std.specs.Prelude.{◌≡◌, nat_eq, not, filter, OnOk, OnErr, IfErr, IfOk, IfSome, IsSomeAnd, MatchOption};
+ghost use Rattle.std.specs.Prelude.{◌≡◌, nat_eq, not, filter, OnOk, OnErr, IfErr, IfOk, IfSome, IsSomeAnd};
+ghost use Rattle.std.specs.Prelude.{MatchOption};
 ghost use Rattle.std.specs.Prelude.{Some, find, option_map, length, ◌≤◌, ◌<◌};
 ghost use Rattle.std.specs.List.{IsDistinct};
 ghost use Rattle.std.specs.Map.{lookup, keys_of, values_of, remove_entry};
@@ -28,7 +29,8 @@ pub(crate) fn get(
         × IsSomeAnd (lookup (nat_eq layer) images.old.entries) (Suits (stamp_list stamps.now) view.now)) }
     ensures ok { IfOk result (λ o. MatchOption o
         ((images.new ≡ images.old)
-        × IfSome (lookup (nat_eq layer) images.old.entries) (λ p. Suits (stamp_list stamps.now) view.now p → ⊥))
+        × IfSome (lookup (nat_eq layer) images.old.entries)
+        (λ p. Suits (stamp_list stamps.now) view.now p → ⊥))
         (λ p. (lookup (nat_eq layer) images.old.entries ≡ Some p) × Suits (stamp_list stamps.now) view.now p
         × (images.new ≡ lru_cache (promoted (nat_eq layer) images.old.entries) images.old.cap))) }
 {

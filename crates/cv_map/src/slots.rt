@@ -1,6 +1,7 @@
 //! The slots of a store's project at a view, each painted.
 
-ghost use Rattle.std.specs.Prelude.{◌≡◌, [], Some, None, true, map, slice_get, option_map, option_and_then, IfOk};
+ghost use Rattle.std.specs.Prelude.{◌≡◌, [], Some, None, true, map, slice_get, option_map, option_and_then};
+ghost use Rattle.std.specs.Prelude.{IfOk};
 ghost use Rattle.std.specs.Prelude.{if◌then◌else◌};
 ghost use Rattle.cv_model.specs.Layers.{is_slot, slots};
 ghost use Rattle.cv_model.specs.Paintings.{slot_frame};

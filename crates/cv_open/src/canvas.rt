@@ -5,7 +5,8 @@ ghost use Rattle.cv_model.specs.Openings.{CanOpen, first_view};
 ghost use Rattle.cv_model.specs.ProjectFiles.{IsInForm, IsCanvas, IsSize, IsShown};
 ghost use Rattle.cv_model.specs.Views.{PixelGrid, grid_of};
 ghost use Rattle.cv_outside.specs.Seen.{shelf_seen, ShelfStands};
-ghost use Rattle.cv_open.specs.Canvases.{canvas_path, lacking, canvas_view, view_in, layers_at, layers_for, shown};
+ghost use Rattle.cv_open.specs.Canvases.{canvas_path, lacking, canvas_view, view_in, layers_at, layers_for};
+ghost use Rattle.cv_open.specs.Canvases.{shown};
 ghost use Rattle.cv_open.specs.Readings.{IsReadAs, IsSaid};
 
 use crate::ends::End;
@@ -116,7 +117,7 @@ fn with_canvas<F: Shelf>(
 }
 
 /// Reads a project, and then all its layers, where it has the canvas of this number and the canvas an extent;
-/// else it is refused before any layer is read. Each file is read once.
+/// else it is refused before any layer is read. A file is read once for each layer that names it.
 #[tactic(auto, using(crate::proofs::ReadingLemmas::stands_on))]
 pub fn open_canvas<F: Shelf>(
     alloc: Global,

@@ -94,7 +94,8 @@ fn name_of(source: &Source) -> &str
     }
 }
 
-/// The layer at a place, and what is left behind its bytes, of which there are so many; or why they are refused.
+/// The layer at a place, and what is left behind its bytes, of which there are so many; or why they are
+/// refused.
 fn with_left(
     place: u32,
     left: &Left,

@@ -1,11 +1,11 @@
-//! Opening: a project's file and the files of its layers, read over a shelf; how a command ends; and the report
-//! on what was read.
+//! Opening: a project's file and the files of its layers, read over a shelf; how a command ends; and the
+//! report on what was read.
 //!
 //! Contract: what a call reads is what its definition reads (`IsReadAs`): the names asked, first to last, and
 //! what their files give, with the cause of each answer outside; a project that was read can be opened
 //! (`CanOpen` of `cv_model`); the report is `report_of` the opened project.
-//! Definitions: `Ends`, `Readings`, `Rooms`, `Opened` and `Reports` of this crate, over those of `cv_model`,
-//! `cv_dtext`, `cv_grid` and `cv_project`.
+//! Definitions: `Ends`, `Readings`, `Rooms`, `Opened`, `Canvases` and `Reports` of this crate, over those of
+//! `cv_model`, `cv_dtext`, `cv_grid` and `cv_project`.
 //! Takes memory for what is read and reported. No handles.
 #![tactic(auto)]
 

@@ -130,8 +130,9 @@ pub(crate) fn with_layers<F: Shelf>(
     }
 }
 
-/// Reads a project and all its layers, each file once: the project's first, and then one for each layer in the
-/// order of the file. What is answered is in form and passes no limit, so that it can be opened.
+/// Reads a project and all its layers: the project's file first, and then one for each layer in the order of
+/// the file, also where two layers name the same. What is answered is in form and passes no limit, so that it
+/// can be opened.
 #[tactic(auto, using(crate::proofs::ReadingLemmas::stands_on))]
 pub fn open<F: Shelf>(alloc: Global, shelf: &mut F, name: &str) -> Result<Opened, End>
     ensures stands { ShelfStands (shelf_seen F.Shelf shelf.old) (shelf_seen F.Shelf shelf.new) }

@@ -113,8 +113,8 @@ fn lines_of(alloc: Global, opened: &Opened) -> Result<String, NoMemory>
     Ok(text)
 }
 
-/// The report on an opened project: for each layer its counts and notes, then those of the project, and then the
-/// project as it is written.
+/// The report on an opened project: for each layer its counts and notes, then those of the project, and then
+/// the project as it is written.
 #[tactic(auto, unfolding(crate::specs::Reports::report_of))]
 pub fn report(alloc: Global, opened: &Opened) -> Result<Vec<u8>, NoMemory>
     requires { IsInForm opened.now.file }

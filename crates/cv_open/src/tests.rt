@@ -5,7 +5,8 @@ use std::alloc::{AllocError, Global};
 use std::test::Fail;
 
 const PROJECT: &str =
-    "{\"version\":1,\"background\":\"ffffff\",\"canvases\":[],\"layers\":[{\"id\":7,\"name\":\"land\",\"source\":{\"kind\":\"text\",\"file\":\"land.csv\"},\"style\":{\"kind\":\"single\",\"symbol\":{}}}]}";
+    "{\"version\":1,\"background\":\"ffffff\",\"canvases\":[],\"layers\":[{\"id\":7,\"name\":\"land\",\
+    \"source\":{\"kind\":\"text\",\"file\":\"land.csv\"},\"style\":{\"kind\":\"single\",\"symbol\":{}}}]}";
 
 const LAND: &str = "wkt,name\n\"POLYGON((0 0,4 0,4 4))\",a\n\"CIRCULARSTRING(0 0,1 1,2 0)\",b\n";
 

@@ -6,9 +6,10 @@ ghost use Rattle.cv_model.specs.Positions.{IsCoordinate};
 ghost use Rattle.cv_model.specs.ProjectFiles.{IsCanvas};
 ghost use Rattle.cv_project.specs.Canvases.{rectangle_of, extent_of, can_show, canvas_of};
 
-use crate::kind::{AnyWhole, COORDINATE, Kind, Whole};
+use crate::kind::{AnyWhole, Kind};
 use crate::list::{Each, members};
 use crate::node::Node;
+use crate::ranges::{CACHE, COORDINATE, MOST_PIXELS, SIDE};
 use crate::refusal::Refusal;
 use cv_model::{CanvasFile, Extent};
 
@@ -57,7 +58,11 @@ fn rectangle(numbers: &[i64]) -> Extent
 fn is_size(width: u64, height: u64) -> bool
     ensures { result ≡ is_size width height }
 {
-    1 <= width && width <= 4096 && 1 <= height && height <= 4096 && width * height <= 2_097_152
+    SIDE.least <= width
+        && width <= SIDE.most
+        && SIDE.least <= height
+        && height <= SIDE.most
+        && width * height <= MOST_PIXELS
 }
 
 /// Whether a canvas has a view of its extent, if one is named.
@@ -87,11 +92,7 @@ impl Kind for CanvasOf {
         let width = node.required("width", &AnyWhole)?;
         let height = node.required("height", &AnyWhole)?;
         node.tested(is_size(width, height), "height")?;
-        let cache = Whole {
-            least: 0,
-            most: 268_435_456,
-        };
-        let cache = node.with_default("cache", &cache, 67_108_864)?;
+        let cache = node.with_default("cache", &CACHE, 67_108_864)?;
         let extent = node.optional("extent", &ExtentOf)?;
         let width = width as u32;
         let height = height as u32;

@@ -9,6 +9,7 @@ ghost use Rattle.cv_project.specs.Nodes.{TreeNode};
 ghost use Rattle.cv_project.specs.Seen.{seen};
 
 use crate::node::Node;
+use crate::ranges::{ID, MOST_NAME};
 use crate::refusal::Refusal;
 use crate::words::{Word, find_word};
 use cv_decimal::Fixed;
@@ -98,11 +99,7 @@ impl Kind for Id {
     ghost keeps = { λ _ id. 1 ≤ id };
 
     fn read(&self, node: &Node<'_>) -> Result<u32, Refusal> {
-        let ids = Whole {
-            least: 1,
-            most: 4_294_967_295,
-        };
-        let id = ids.read(node)?;
+        let id = ID.read(node)?;
         let id = id as u32;
         Ok(id)
     }
@@ -145,7 +142,7 @@ impl Kind for Name {
         let Some(text) = node.value().as_str() else {
             return Err(node.wrong_kind());
         };
-        if text.len() > 256 {
+        if text.len() > MOST_NAME {
             return Err(node.limit());
         }
         let copy = Text::of(node.alloc(), text)?;
@@ -209,12 +206,6 @@ pub struct Decimal {
     /// The greatest that is allowed.
     pub most: i64,
 }
-
-/// A coordinate, the value of a cell, or a number of a text.
-pub const COORDINATE: Decimal = Decimal {
-    least: -1_000_000_000_000_000,
-    most: 1_000_000_000_000_000,
-};
 
 impl Kind for Decimal {
     type Made = i64;

@@ -9,9 +9,10 @@ ghost use Rattle.cv_project.specs.Layers.{new_id, versioned_scales, layer_names,
 ghost use Rattle.cv_project.specs.Layers.{AreLayers-none};
 ghost use Rattle.cv_project.specs.Seen.{seen};
 
-use crate::kind::{Flag, Id, Kind, Name, OneOf, Whole};
+use crate::kind::{Flag, Id, Kind, Name, OneOf};
 use crate::list::Member;
 use crate::node::Node;
+use crate::ranges::OPACITY;
 use crate::refusal::Refusal;
 use crate::source::{JoinOf, ScalesOf, SourceOf};
 use crate::style::StyleOf;
@@ -101,14 +102,7 @@ impl Member for LayerOf {
         let name = node.required("name", &Name)?;
         let source = node.required("source", &SourceOf)?;
         let visible = node.with_default("visible", &Flag, true)?;
-        let opacity = node.with_default(
-            "opacity",
-            &Whole {
-                least: 0,
-                most: 255,
-            },
-            255,
-        )?;
+        let opacity = node.with_default("opacity", &OPACITY, 255)?;
         let blend = node.with_default("blend", &OneOf::WORDS, Blend::Normal)?;
         let mask = node.optional("mask", &Id)?;
         let join = node.optional("join", &JoinOf)?;

@@ -26,6 +26,7 @@ mod node;
 mod parts;
 mod path;
 mod project;
+mod ranges;
 mod refusal;
 mod source;
 mod style;
@@ -36,8 +37,13 @@ mod words;
 use cv_model::{NoMemory, ProjectFile};
 pub use error::ProjectError;
 use kind::Kind;
+pub use kind::{Decimal, Whole};
 use node::Node;
 use project::ProjectOf;
+pub use ranges::{
+    CACHE, COORDINATE, ID, MARKER_SIZE, MOST_CANVASES, MOST_CLASSES, MOST_LAYERS, MOST_NAME,
+    MOST_PIXELS, OPACITY, PEN_WIDTH, SCALE, SIDE, STOPS,
+};
 use serde_json::Value;
 use std::alloc::Global;
 use tree::Part;

@@ -10,6 +10,7 @@ use crate::kind::{AnyWhole, Background, Kind};
 use crate::layer::LayerOf;
 use crate::list::{Each, ListOf};
 use crate::node::Node;
+use crate::ranges::{MOST_CANVASES, MOST_LAYERS};
 use crate::refusal::Refusal;
 use cv_model::ProjectFile;
 
@@ -44,13 +45,13 @@ impl Kind for ProjectOf {
         let background = node.required("background", &Background)?;
         let canvases = ListOf {
             least: 0,
-            most: 4,
+            most: MOST_CANVASES,
             of: Each(CanvasOf),
         };
         let canvases = node.required("canvases", &canvases)?;
         let layers = ListOf {
             least: 0,
-            most: 32,
+            most: MOST_LAYERS,
             of: LayerOf { version },
         };
         let layers = node.required("layers", &layers)?;

@@ -7,8 +7,9 @@ ghost use Rattle.cv_project.specs.Seen.{seen};
 ghost use Rattle.cv_project.specs.Sources.{text_source_of, grid_source_of, source_of, join_of, in_order};
 ghost use Rattle.cv_project.specs.Sources.{scales_of};
 
-use crate::kind::{Decimal, Id, Kind, Name, OneOf};
+use crate::kind::{Id, Kind, Name, OneOf};
 use crate::node::Node;
+use crate::ranges::SCALE;
 use crate::refusal::Refusal;
 use crate::words::SourceKind;
 use cv_model::{Delimiter, Join, Scales, Source, Text};
@@ -85,12 +86,6 @@ impl Kind for JoinOf {
         Ok(Join { layer, local, key })
     }
 }
-
-/// A bound of scales: 0 to 10^9 map units to a pixel.
-pub const SCALE: Decimal = Decimal {
-    least: 0,
-    most: 1_000_000_000_000_000,
-};
 
 /// Whether the least isn't above the greatest, where both are there.
 fn in_order(least: Option<i64>, greatest: Option<i64>) -> bool

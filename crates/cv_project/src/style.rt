@@ -10,9 +10,10 @@ ghost use Rattle.cv_project.specs.Styles.{column_of, names_twice, class_of, rang
 ghost use Rattle.cv_project.specs.Styles.{single_of, categorised_of, graduated_of, ramp_of, fits, fitting};
 ghost use Rattle.cv_project.specs.Styles.{style_of};
 
-use crate::kind::{AnyText, COORDINATE, Colour, Kind, Name, OneOf};
+use crate::kind::{AnyText, Colour, Kind, Name, OneOf};
 use crate::list::{Each, ListOf};
 use crate::node::Node;
+use crate::ranges::{COORDINATE, MOST_CLASSES, STOPS};
 use crate::refusal::Refusal;
 use crate::symbol::SymbolKind;
 use crate::words::StyleKind;
@@ -148,7 +149,7 @@ fn categorised(node: &Node<'_>) -> Result<Style, Refusal>
     let column = column(node)?;
     let classes = ListOf {
         least: 0,
-        most: 1024,
+        most: MOST_CLASSES,
         of: Each(ClassKind),
     };
     let classes = node.required("classes", &classes)?;
@@ -171,7 +172,7 @@ fn graduated(node: &Node<'_>) -> Result<Style, Refusal>
     let column = column(node)?;
     let classes = ListOf {
         least: 0,
-        most: 1024,
+        most: MOST_CLASSES,
         of: Each(RangeKind),
     };
     let classes = node.required("classes", &classes)?;
@@ -216,8 +217,8 @@ fn ramp(node: &Node<'_>) -> Result<Style, Refusal>
 {
     let kind = node.required("ramp", &OneOf::WORDS)?;
     let stops = ListOf {
-        least: 1,
-        most: 256,
+        least: STOPS.least,
+        most: STOPS.most,
         of: Each(StopKind),
     };
     let stops = node.required("stops", &stops)?;

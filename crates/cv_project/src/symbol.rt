@@ -2,8 +2,9 @@
 
 ghost use Rattle.std.specs.Prelude.{◌≡◌};
 
-use crate::kind::{Colour, Kind, OneOf, Whole};
+use crate::kind::{Colour, Kind, OneOf};
 use crate::node::Node;
+use crate::ranges::{MARKER_SIZE, PEN_WIDTH};
 use crate::refusal::Refusal;
 use cv_model::{Marker, Pen, Symbol};
 
@@ -24,7 +25,7 @@ impl Kind for PenKind {
     fn read(&self, node: &Node<'_>) -> Result<Pen, Refusal> {
         node.object()?;
         let colour = node.required("colour", &Colour)?;
-        let width = node.required("width", &Whole { least: 1, most: 64 })?;
+        let width = node.required("width", &PEN_WIDTH)?;
         node.no_others(&["colour", "width"])?;
         let width = width as u32;
         Ok(Pen { colour, width })
@@ -49,13 +50,7 @@ impl Kind for MarkerKind {
         node.object()?;
         let shape = node.required("shape", &OneOf::WORDS)?;
         let colour = node.required("colour", &Colour)?;
-        let size = node.required(
-            "size",
-            &Whole {
-                least: 1,
-                most: 256,
-            },
-        )?;
+        let size = node.required("size", &MARKER_SIZE)?;
         node.no_others(&["colour", "shape", "size"])?;
         let size = size as u32;
         Ok(Marker {

@@ -1,6 +1,7 @@
 //! Upright rectangles, each filled as one block of rows.
 
-ghost use Rattle.std.specs.Prelude.{◌≡◌, ◌≤◌, ◌<◌, ◌==◌, ◌%◌, OnOk, IfSome, true, pos, ◌*ℤ◌, int_lt, option_to_list};
+ghost use Rattle.std.specs.Prelude.{◌≡◌, ◌≤◌, ◌<◌, ◌==◌, ◌%◌, OnOk, IfSome, true, pos, ◌*ℤ◌, int_lt};
+ghost use Rattle.std.specs.Prelude.{option_to_list};
 ghost use Rattle.cv_model.specs.Positions.{Position, doubled};
 ghost use Rattle.cv_model.specs.Polygons.{crossings, edges, is_inside};
 ghost use Rattle.cv_model.specs.Views.{centre_of};
@@ -13,7 +14,8 @@ use crate::crossings::{column_of, row_of};
 use cv_geom::{Area, Multiples, Runs};
 use cv_model::{NoMemory, Point, Polygon, Span, View};
 
-/// Two opposite corners of a polygon that is an upright rectangle: one ring of four points and the first again.
+/// Two opposite corners of a polygon that is an upright rectangle: one ring of four points and the first
+/// again.
 pub fn block_of(polygon: &Polygon) -> Option<(Point, Point)>
     ensures { IfSome result
         (λ corners. (p : Position) → is_inside p polygon.now ≡ is_in_block p corners.0 corners.1) }

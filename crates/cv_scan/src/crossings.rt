@@ -1,6 +1,7 @@
 //! Where an edge crosses the height of a row.
 
-ghost use Rattle.std.specs.Prelude.{◌≡◌, ℕ, ◌≤◌, ◌<◌, true, false, pos, negsuc, ◌^◌, ◌≤ℤ◌, ◌-ℤ◌, ◌*ℤ◌, int_lt};
+ghost use Rattle.std.specs.Prelude.{◌≡◌, ℕ, ◌≤◌, ◌<◌, true, false, pos, negsuc, ◌^◌, ◌≤ℤ◌, ◌-ℤ◌, ◌*ℤ◌};
+ghost use Rattle.std.specs.Prelude.{int_lt};
 ghost use Rattle.cv_model.specs.declared.span.Span.{Span};
 ghost use Rattle.cv_model.specs.Positions.{IsCoordinate, doubled};
 ghost use Rattle.cv_model.specs.Polygons.{is_crossed, is_low};

@@ -17,9 +17,9 @@ use std::sync::ledger::Ledger;
 
 /// Puts the runs of an area inside any of some polygons into a list in place of what it held.
 ///
-/// A step is an edge visited for a row; an upright rectangle takes none. The memory of `scratch` is used again
-/// from call to call: beside a list of few marks at most a bit for each pixel of the area. Where memory wants,
-/// what the list holds is open.
+/// A step is an edge visited for a row; an upright rectangle takes none. The memory of `scratch` is used
+/// again from call to call: beside a list of few marks at most a bit for each pixel of the area. Where memory
+/// wants, what the list holds is open.
 pub fn fill_runs<L: Ledger>(
     scratch: &mut Scratch,
     polygons: &[Polygon],

@@ -27,7 +27,8 @@ pub fn put_mark(scratch: &mut Scratch, area: Area, mark: Mark) -> Result<(), NoM
     requires rows { area.rows.from ≤ area.rows.end }
     requires mark { MarkIn area mark }
     requires held { IsHeld area scratch.old }
-    ensures { OnOk result (AddsMarks (λ i j. if is_right i j mark then 1 else 0) area scratch.old scratch.new) }
+    ensures { OnOk result
+        (AddsMarks (λ i j. if is_right i j mark then 1 else 0) area scratch.old scratch.new) }
 {
     make_room(scratch, area)?;
     scratch.marks.push(mark)?;

@@ -150,8 +150,8 @@ fn put_up<L: Ledger>(
 }
 
 /// Puts the marks of an edge from its lower end up, whose crossings lie between some columns, as `put_edge`.
-/// Where its slope is given they are searched until one is found in the area, and then follow each from the one
-/// before.
+/// Where its slope is given they are searched until one is found in the area, and then follow each from the
+/// one before.
 fn put_rows<L: Ledger>(
     scratch: &mut Scratch,
     low: Point,

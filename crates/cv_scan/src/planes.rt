@@ -3,7 +3,8 @@
 ghost use Rattle.std.specs.Prelude.{◌≡◌, ◌+◌, ◌-◌, ◌*◌, ◌≤◌, ◌<◌, ◌==◌, ◌%◌, ◌⊎◌, ℕ, [], OnOk, length, All};
 ghost use Rattle.cv_geom.specs.Runs.{Adds, rows_of};
 ghost use Rattle.cv_scan.specs.Marks.{MarkIn};
-ghost use Rattle.cv_scan.specs.Planes.{bit_of, bits_right, toggled, width_of, first_of, HasBits, HoldMarks, set_marks};
+ghost use Rattle.cv_scan.specs.Planes.{bit_of, bits_right, toggled, width_of, first_of, HasBits, HoldMarks};
+ghost use Rattle.cv_scan.specs.Planes.{set_marks};
 
 use crate::marks::{Mark, put_pairs};
 use cv_geom::{Area, Runs};

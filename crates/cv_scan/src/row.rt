@@ -1,6 +1,7 @@
 //! The spans of a row inside a polygon.
 
-ghost use Rattle.std.specs.Prelude.{◌≡◌, ◌+◌, ◌≤◌, ◌<◌, ℕ, ◌++◌, [], OnOk, OnErr, IfOk, length, min, pos, ◌*ℤ◌};
+ghost use Rattle.std.specs.Prelude.{◌≡◌, ◌+◌, ◌≤◌, ◌<◌, ℕ, ◌++◌, [], OnOk, OnErr, IfOk, length, min, pos};
+ghost use Rattle.std.specs.Prelude.{◌*ℤ◌};
 ghost use Rattle.std.specs.List.{All, flat_map};
 ghost use Rattle.cv_model.specs.Polygons.{edges, is_inside};
 ghost use Rattle.cv_model.specs.Views.{centre_of};

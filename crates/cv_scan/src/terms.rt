@@ -1,6 +1,7 @@
 //! Where a long edge crosses the heights of rows, each found from the one above it without a search.
 
-ghost use Rattle.std.specs.Prelude.{◌≡◌, ℕ, ◌≤◌, ◌<◌, ◌+◌, ◌^◌, IfSome, true, false, pos, negsuc, neg_ℤ, ◌≤ℤ◌, ◌+ℤ◌, ◌-ℤ◌, ◌*ℤ◌, unsigned_abs};
+ghost use Rattle.std.specs.Prelude.{◌≡◌, ℕ, ◌≤◌, ◌<◌, ◌+◌, ◌^◌, IfSome, true, false, pos, negsuc, neg_ℤ};
+ghost use Rattle.std.specs.Prelude.{◌≤ℤ◌, ◌+ℤ◌, ◌-ℤ◌, ◌*ℤ◌, unsigned_abs};
 ghost use Rattle.cv_model.specs.Positions.{Position, doubled};
 ghost use Rattle.cv_model.specs.Polygons.{is_crossed, is_low};
 ghost use Rattle.cv_model.specs.Views.{PixelGrid, centre_of};
@@ -12,8 +13,8 @@ use crate::crossings::column_of_crossing;
 use cv_geom::{centre, distance, distance_to, product};
 use cv_model::{Point, Point2, Span, View};
 
-/// Where a line crosses the height of a row: `column` is the first one whose centre doesn't lie left of it, in
-/// the view or outside, and `over` how far east of the line that lies, times the line's way up.
+/// Where a line crosses the height of a row: `column` is the first one whose centre doesn't lie left of it,
+/// in the view or outside, and `over` how far east of the line that lies, times the line's way up.
 #[derive(Clone, Copy, Debug, PartialEq, Eq)]
 pub struct Place {
     pub column: i64,
@@ -110,8 +111,8 @@ fn part_of(dx: i64, side: i64, shift: i64, dy: i64) -> i128
     -product(dx, side) - product(shift, dy)
 }
 
-/// The first of some columns whose centre in a row doesn't lie left of the line from a point up to another: by
-/// the place of its crossing if that is known, else by a search between the columns of the points.
+/// The first of some columns whose centre in a row doesn't lie left of the line from a point up to another:
+/// by the place of its crossing if that is known, else by a search between the columns of the points.
 pub fn column_at(
     place: Option<Place>,
     low: Point,
@@ -128,7 +129,8 @@ pub fn column_at(
     requires low { is_low (centre_of view.now 0 row) (doubled low) ≡ true }
     requires high { is_low (centre_of view.now 0 row) (doubled high) ≡ false }
     requires place { IfSome place (λ place. IsPlace view.now (doubled low) (doubled high) row place) }
-    ensures { FallsAt (λ i. is_crossed (centre_of view.now i row) (low, high)) columns.from columns.end result }
+    ensures { FallsAt (λ i. is_crossed (centre_of view.now i row) (low, high))
+        columns.from columns.end result }
 {
     let _unit = view.u;
     match place {
@@ -151,8 +153,8 @@ fn nearest(column: i64, columns: Span) -> u32
     }
 }
 
-/// The place of a line's crossing with the height of the row below, if it is known: from the one in the row, or
-/// from the column that was found there.
+/// The place of a line's crossing with the height of the row below, if it is known: from the one in the row,
+/// or from the column that was found there.
 pub fn next_place(
     place: Option<Place>,
     slope: Option<Slope>,

@@ -2,7 +2,7 @@
 //!
 //! Contract: a store is a project, a version and a revision for each layer; an edit is refused as the
 //! definitions' verdict says, and what it makes is their step. Definitions: `Stores`, `Tallies`, `Answers`,
-//! `Data`, `Adding`, `Laws`, `Opened`, in this order.
+//! `Data`, `Adding`, `Laws`, `Opened`, in this order; `Maps`, what is said of its map of layers.
 #![tactic(auto)]
 
 mod adding;

@@ -141,7 +141,8 @@ impl CanvasRow {
         stamps: &Stamps,
         view: &View,
     ) -> Result<Option<Shared<PaintedLayer>>, NoMemory>
-        ensures ok { IfOk result (λ found. TabLook self.old self.new layer (stamp_list stamps.now) view.now found) }
+        ensures ok { IfOk result
+            (λ found. TabLook self.old self.new layer (stamp_list stamps.now) view.now found) }
         ensures err { OnErr result (self.new ≡ self.old) }
     {
         self.cache.get(layer, stamps, view)

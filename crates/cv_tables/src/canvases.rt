@@ -50,8 +50,8 @@ impl CanvasTable {
         self.rows.get(canvas as usize)
     }
 
-    /// Gives a canvas another view. Where that is no pan of the present one, it keeps no painted layer. Takes no
-    /// memory.
+    /// Gives a canvas another view. Where that is no pan of the present one, it keeps no painted layer. Takes
+    /// no memory.
     pub fn set_view(&mut self, canvas: u32, view: View)
         ensures { self.new ≡ change_at canvas (tab_viewed view) self.old }
     {
@@ -79,8 +79,8 @@ impl CanvasTable {
         }
     }
 
-    /// Puts a painted layer in front of those of a canvas, in the place of an older one of its layer, and cuts
-    /// the others to the capacity. A refusal hands it back and changes nothing.
+    /// Puts a painted layer in front of those of a canvas, in the place of an older one of its layer, and
+    /// cuts the others to the capacity. A refusal hands it back and changes nothing.
     pub fn store(
         &mut self,
         canvas: u32,

@@ -1,8 +1,9 @@
 //! The tables of a desk: its jobs with what is held of them, and its canvases with their caches.
 //!
-//! Contract: a `JobTable` is the list of its jobs, a `CanvasTable` that of its canvases; each call is the change
-//! that the journal's state makes of these. Definitions: `Rows`, `Tabs`, in this order. `JobTable::start`,
-//! `JobRow::composing`, `CanvasTable::open`, `look` and `store` take memory; no handle is needed.
+//! Contract: a `JobTable` is the list of its jobs, a `CanvasTable` that of its canvases; each call is the
+//! change that the journal's state makes of these. Definitions: `Rows`, `Tabs`, in this order.
+//! `JobTable::start`, `JobRow::composing`, `CanvasTable::open`, `look` and `store` take memory; no handle is
+//! needed.
 #![tactic(auto)]
 
 mod canvas;

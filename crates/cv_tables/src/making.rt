@@ -46,7 +46,8 @@ fn is_slot(frame: LayerFrame, view: View) -> bool
     frame.visible && holds_scale(frame.scales, unit(view))
 }
 
-/// What is gathered for the slots of a job, bottom first, seen as the layers of the slots.
+/// What is gathered for the slots of a job, bottom first: each slot with its frame, its input and, where one
+/// was kept, its image.
 #[derive(Drop)]
 struct Gathered {
     slots: Vec<Slot>,

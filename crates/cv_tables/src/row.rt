@@ -8,7 +8,8 @@ ghost use Rattle.cv_event.specs.Legality.{is_ready, open_task, ready_bits};
 ghost use Rattle.cv_model.specs.Paintings.{frame_of};
 ghost use Rattle.cv_store.specs.Stores.{project_of};
 ghost use Rattle.cv_tables.specs.Rows.{Row, job_of, row_stands, row_composed, row_ended, row_edited};
-ghost use Rattle.cv_tables.specs.Rows.{painting_of, input_at, input_of, compose_of, weight, WhileLive, HoldsAll};
+ghost use Rattle.cv_tables.specs.Rows.{painting_of, input_at, input_of, compose_of, weight, WhileLive};
+ghost use Rattle.cv_tables.specs.Rows.{HoldsAll};
 ghost use Rattle.cv_tables.specs.Rows.{slots_named, slot_named, slots_edited, end_weight, IsRow};
 
 use crate::holdings::Holdings;
@@ -24,8 +25,8 @@ use std::alloc::Global;
 use std::marker::Model;
 use std::snapshot::Snapshot;
 
-/// A job, seen as its canvas, the store as it was at its start, its view, its slots from the bottom, the caller
-/// that composes its picture, and how it ended.
+/// A job, seen as its canvas, the store as it was at its start, its view, its slots from the bottom, the
+/// caller that composes its picture, and how it ended.
 ///
 /// While it has no end it holds the inputs of its slots and the images of those that are ready.
 #[derive(Drop)]
@@ -100,8 +101,8 @@ fn end_weight(ended: Option<How>) -> u64
 }
 
 impl JobRow {
-    /// A job that is started: of a store at a view, with its slots from the bottom, none of which was looked at,
-    /// and all that it holds.
+    /// A job that is started: of a store at a view, with its slots from the bottom, none of which was looked
+    /// at, and all that it holds.
     pub(crate) fn of(
         canvas: u32,
         store: &Store,

@@ -1,4 +1,4 @@
--- What a command's words ask for, what a layer's file says, what is given, and what stands at each end.
+-- What a command's words ask for, what is given, and what stands at each end.
 pub mod Parts
 pub mod Words
 pub mod Opened

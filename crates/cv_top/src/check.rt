@@ -27,7 +27,8 @@ fn print_report<O: Sink>(alloc: Global, opened: &Opened, out: &mut O) -> End
     }
 }
 
-/// Opens the project of this name, each of its files read once, and prints the report on it.
+/// Opens the project of this name, a file read once for each layer that
+/// names it, and prints the report on it.
 fn check_project<F: Shelf, O: Sink>(alloc: Global, project: &str, shelf: &mut F, out: &mut O) -> End
     ensures untouched { Untouched result ⊥ (Unit {0}) (out.new ≡ out.old) }
     ensures shelf_stands { ShelfStands (shelf_seen F.Shelf shelf.old) (shelf_seen F.Shelf shelf.new) }

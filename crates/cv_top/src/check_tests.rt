@@ -1,5 +1,5 @@
-//! The command `check` over devices in memory: worked projects, files that are refused or absent, and reads that
-//! fail.
+//! The command `check` over devices in memory: worked projects, files that are refused or absent, and reads
+//! that fail.
 use super::*;
 use cv_outside::{Files, MemShelf, MemSink, SureSink, SureTray};
 use cv_testing::words_of;
@@ -8,14 +8,19 @@ use std::collections::BTreeMap;
 use std::test::Fail;
 
 const EMPTY: &str =
-    "{\"version\":1,\"background\":\"102030\",\"canvases\":[{\"width\":2,\"height\":1,\"extent\":[\"0\",\"0\",\"2\",\"1\"]}],\"layers\":[]}";
+    "{\"version\":1,\"background\":\"102030\",\"canvases\":[{\"width\":2,\"height\":1,\"extent\":[\"0\",\
+    \"0\",\"2\",\"1\"]}],\"layers\":[]}";
 
 const EMPTY_WRITTEN: &str =
-    "project 0 1\n{\"background\":\"102030\",\"canvases\":[{\"cache\":67108864,\"extent\":[\"0\",\"0\",\"2\",\"1\"],\"height\":1,\"width\":2}],\"layers\":[],\"version\":2}\n";
+    "project 0 1\n{\"background\":\"102030\",\"canvases\":[{\"cache\":67108864,\"extent\":[\"0\",\"0\",\
+    \"2\",\"1\"],\"height\":1,\"width\":2}],\"layers\":[],\"version\":2}\n";
 
 // A delimited text on top, and the grid `dem.asc` below it.
 const PAIR: &str =
-    "{\"version\":1,\"background\":\"ffffff\",\"canvases\":[],\"layers\":[{\"id\":7,\"name\":\"land\",\"source\":{\"kind\":\"text\",\"file\":\"land.csv\"},\"style\":{\"kind\":\"single\",\"symbol\":{}}},{\"id\":9,\"name\":\"heights\",\"source\":{\"kind\":\"grid\",\"file\":\"dem.asc\"},\"style\":{\"kind\":\"ramp\",\"ramp\":\"linear\",\"stops\":[{\"value\":\"1\",\"colour\":\"204060\"}]}}]}";
+    "{\"version\":1,\"background\":\"ffffff\",\"canvases\":[],\"layers\":[{\"id\":7,\"name\":\"land\",\
+    \"source\":{\"kind\":\"text\",\"file\":\"land.csv\"},\"style\":{\"kind\":\"single\",\"symbol\":{}}},\
+    {\"id\":9,\"name\":\"heights\",\"source\":{\"kind\":\"grid\",\"file\":\"dem.asc\"},\
+    \"style\":{\"kind\":\"ramp\",\"ramp\":\"linear\",\"stops\":[{\"value\":\"1\",\"colour\":\"204060\"}]}}]}";
 
 const LAND: &str =
     "wkt,name\n\"POLYGON((0 0,4 0,4 4))\",a\n\"CIRCULARSTRING(0 0,1 1,2 0)\",b\n,c\nPOINT(1,d\n";

@@ -50,8 +50,8 @@ fn paint_shown<T: Tray, O: Sink>(
     }
 }
 
-/// Opens the project for the canvas, a file read once for each layer that names it, and paints what the canvas
-/// shows at first.
+/// Opens the project for the canvas, a file read once for each layer that names it, and paints what the
+/// canvas shows at first.
 fn paint_canvas<F: Shelf, T: Tray, O: Sink>(
     alloc: Global,
     order: &PaintOrder<'_>,

@@ -10,7 +10,13 @@ use std::test::Fail;
 
 // A grey square multiplied onto another one, which is painted within a mask.
 const TWO: &str =
-    "{\"version\":1,\"background\":\"ffffff\",\"canvases\":[{\"width\":4,\"height\":4,\"cache\":1024,\"extent\":[\"0\",\"0\",\"4\",\"4\"]}],\"layers\":[{\"id\":2,\"name\":\"top\",\"source\":{\"kind\":\"text\",\"file\":\"top.csv\"},\"blend\":\"multiply\",\"style\":{\"kind\":\"single\",\"symbol\":{\"fill\":\"646464\"}}},{\"id\":1,\"name\":\"base\",\"source\":{\"kind\":\"text\",\"file\":\"base.csv\"},\"mask\":3,\"style\":{\"kind\":\"single\",\"symbol\":{\"fill\":\"c8c8c8\"}}},{\"id\":3,\"name\":\"mask\",\"source\":{\"kind\":\"text\",\"file\":\"mask.csv\"},\"visible\":false,\"style\":{\"kind\":\"single\",\"symbol\":{}}}]}";
+    "{\"version\":1,\"background\":\"ffffff\",\"canvases\":[{\"width\":4,\"height\":4,\"cache\":1024,\
+    \"extent\":[\"0\",\"0\",\"4\",\"4\"]}],\"layers\":[{\"id\":2,\"name\":\"top\",\
+    \"source\":{\"kind\":\"text\",\"file\":\"top.csv\"},\"blend\":\"multiply\",\
+    \"style\":{\"kind\":\"single\",\"symbol\":{\"fill\":\"646464\"}}},{\"id\":1,\"name\":\"base\",\
+    \"source\":{\"kind\":\"text\",\"file\":\"base.csv\"},\"mask\":3,\"style\":{\"kind\":\"single\",\
+    \"symbol\":{\"fill\":\"c8c8c8\"}}},{\"id\":3,\"name\":\"mask\",\"source\":{\"kind\":\"text\",\
+    \"file\":\"mask.csv\"},\"visible\":false,\"style\":{\"kind\":\"single\",\"symbol\":{}}}]}";
 
 // The same without layers, on a canvas without an extent.
 const BLIND: &str =

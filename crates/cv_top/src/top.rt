@@ -21,13 +21,13 @@ use std::thread::Threads;
 /// `wkt` has the geometries in well-known text, paints their polygons with the fill over white at the view of
 /// the extent, writes the picture as a pixmap, and prints `image w h`.
 ///
-/// `check <project>` opens the project, with the files of all its layers, and prints for each layer its counts
-/// and the notes on its refused geometries, then the counts of the project, and then the project as it is
-/// written.
+/// `check <project>` opens the project, with the files of all its layers, and prints for each layer its
+/// counts and the notes on its refused geometries, then the counts of the project, and then the project as it
+/// is written.
 ///
 /// `paint <project> <canvas> <out>` opens the project in the same way, paints what the canvas of that number,
-/// counted from 0, shows at first, writes the picture as a pixmap, and prints `image w h`. A canvas that isn't
-/// there or has no extent is refused before any layer is read.
+/// counted from 0, shows at first, writes the picture as a pixmap, and prints `image w h`. A canvas that
+/// isn't there or has no extent is refused before any layer is read.
 pub fn run_once<F: Shelf, T: Tray, O: Sink>(
     alloc: Global,
     words: &[Text],

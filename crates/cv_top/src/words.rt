@@ -79,8 +79,8 @@ fn are_plain(project: &str, number: &str, out: &str) -> bool
     is_plain(project.as_bytes()) && is_plain(number.as_bytes()) && is_plain(out.as_bytes())
 }
 
-/// What the words ask for, if they are `paint`, the name of a project, the number of a canvas and the name of a
-/// picture.
+/// What the words ask for, if they are `paint`, the name of a project, the number of a canvas and the name of
+/// a picture.
 fn paint_order(words: &[Text]) -> Option<PaintOrder<'_>>
     ensures found { IfSome result (λ order. IsPaint words.now order) }
     ensures only { (order : PaintParts) → IsPaint words.now order → result ≡ Some order }
