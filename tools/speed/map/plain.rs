@@ -1,8 +1,8 @@
 //! The same map in plain Rust: layers of polygons read, painted by runs in the order of their features, and
 //! composed into the file `picture`. The file `words` has width, height, xmin, ymax, the millionths to a
 //! pixel, the background, and then for each layer, bottom first, its file, its fill with alpha, and the
-//! number of its mode. Prints a line for reading, painting and composing: the microseconds, and the sum of the
-//! picture.
+//! number of its mode. Prints a line for reading, painting and composing: the microseconds, and the sum of
+//! the picture.
 //!
 //! It takes the form of all files for granted: a header, and in each line one POLYGON as the first field.
 use std::time::Instant;
