@@ -10,7 +10,7 @@ use Rattle.cv_model.specs.declared.edit.Edit.{Edit}
 use Rattle.cv_model.specs.Layers.{Core, Parts, Project, core_in, parts, parts_among, deps, deps_of, has_layer}
 use Rattle.cv_model.specs.Paintings.{Input, Stamp}
 use Rattle.cv_model.specs.Edits.{step, last_touch, revision, stamps}
-use Rattle.cv_store.specs.Stores.{StoreParts, project_of, stamp_in, core_stamps, stamps_in, input_from, input_in}
+use Rattle.cv_store.specs.Stores.{StoreParts, project_of, core_stamps, input_from, input_in}
 use Rattle.cv_store.specs.Laws.{IsBehind, StampsAreOfEdits, EqualStampsEqualInputs, LeftRevisionsNeverReturn}
 use Rattle.cv_store.proofs.History.{Spare, hits, last_stays, spare_behind, core_spare, any_core, split}
 use Rattle.cv_store.proofs.History.{equal_stamps_equal_parts}
