@@ -1,0 +1,3 @@
+-- Lemmas on the desk.
+pub mod SeenLemmas
+pub mod KeepingLemmas

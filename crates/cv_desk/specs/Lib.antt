@@ -1,0 +1,3 @@
+-- The definitions of the desk, in reading order.
+pub mod Desks
+pub mod Answers
