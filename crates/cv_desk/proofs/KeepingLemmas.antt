@@ -1,6 +1,6 @@
 -- What a desk keeps, one entry further.
 use Rattle.std.proofs.Common.{◌≡◌, ◌∙◌, sym, ap, refl, subst, ℕ, zero, suc, ◌+◌, ◌≤◌, List, [], ◌∷◌, ◌++◌, fold, map, Option, Some, None}
-use Rattle.std.proofs.Common.{slice_get, arith, option_map, IsSomeAnd, Bool, true, false, if◌then◌else◌, ◌==◌, length, ◌<◌, is_some}
+use Rattle.std.proofs.Common.{slice_get, arith, option_map, IsSomeAnd, Bool, true, false, if◌then◌else◌, ◌==◌, length, ◌<◌, is_some, nat_eq}
 use Rattle.std.specs.List.{AllByRecursion, IsDistinct}
 use Rattle.std.proofs.lemmas.List.{length-map}
 use Rattle.std.proofs.lemmas.List.Sums.{fold-append}
@@ -19,14 +19,14 @@ use Rattle.cv_event.specs.declared.slot.Standing.{Standing}
 use Rattle.cv_event.specs.declared.slot.Standing.TheVariants.{Missed, Lost}
 use Rattle.cv_event.specs.States.{keeps_cache, new_slot, started, view_on, slot_stands, stands_at, publishes, canvases_finished}
 use Rattle.cv_event.specs.Legality.{OfJob, Allows, LegalFrom, IsLegal, fate_of}
-use Rattle.cv_event.proofs.PresentLemmas.{all_change, all_map, all_more}
-use Rattle.cv_store.specs.Stores.{StoreParts, project_of, accepted}
+use Rattle.cv_event.proofs.PresentLemmas.{all_change, all_map, all_more, all_at}
+use Rattle.cv_store.specs.Stores.{StoreParts, project_of, accepted, id_of}
 use Rattle.cv_tables.specs.Rows.{Row, job_of, row_in, change_row, row_ended, owed, weight, WhileLive}
-use Rattle.cv_tables.specs.Rows.{row_cancelled, new_row, missed_in, missed_weight, is_missed, end_weight, row_stands, HasSlot}
+use Rattle.cv_tables.specs.Rows.{row_cancelled, new_row, missed_in, missed_weight, is_missed, end_weight, row_stands, slot_layer, layer_id, HasSlot}
 use Rattle.cv_tables.specs.Tabs.{Tab, Tables, canvas_of, tab_viewed, tab_publishes, state_of}
 use Rattle.cv_tables.proofs.TableLemmas.{owed_change, owed_more, lighter, weight_within}
 use Rattle.cv_tables.proofs.RowLemmas.{ended_live}
-use Rattle.cv_desk.specs.Desks.{History, state, IsFresh, AreFresh, IsCurrent, Holds, IsDesk, Notes}
+use Rattle.cv_desk.specs.Desks.{History, state, IsFresh, AreFresh, IsWhole, IsCurrent, Holds, IsDesk, Notes}
 use Rattle.cv_desk.proofs.SeenLemmas.{jobs_ended, jobs_started, jobs_stand, job_seen, canvases_viewed, canvases_published}
 
 legal_more : (s : State) (journal : List Entry) (e : Entry) → LegalFrom s journal → Allows (fold after s journal) e.caller e.act
@@ -52,10 +52,19 @@ kept_more h journal who a u left kept longer allowed made holds =
 ended_fresh : (store : StoreParts) (how : How) (row : Row) → AreFresh store row → AreFresh store (row_ended how row)
 ended_fresh store how row was = ended_live row.ended how (AllByRecursion (IsFresh store row) row.slots)
 
-fresh_change : (store : StoreParts) (j : ℕ) (f : Row → Row) (rows : List Row) → ((row : Row) → AreFresh store row → AreFresh store (f row))
-    → AllByRecursion (AreFresh store) rows → AllByRecursion (AreFresh store) (change_row j f rows)
-fresh_change store zero f rows keeps h = h
-fresh_change store (suc at) f rows keeps h = all_change (AreFresh store) f keeps rows at h
+-- what each job keeps, kept by a change of one
+pub rows_change : (P : Row → Type 0) (j : ℕ) (f : Row → Row) (rows : List Row) → ((row : Row) → P row → P (f row))
+    → AllByRecursion P rows → AllByRecursion P (change_row j f rows)
+rows_change P zero f rows keeps h = h
+rows_change P (suc at) f rows keeps h = all_change P f keeps rows at h
+
+-- and of one
+pub row_kept : (P : Row → Type 0) (j : ℕ) (rows : List Row) (r : Row) → AllByRecursion P rows → row_in rows j ≡ Some r → P r
+row_kept P zero rows r h is = absurd cc
+row_kept P (suc at) rows r h is = all_at P rows at r h is
+
+ended_whole : (how : How) (row : Row) → IsWhole row → IsWhole (row_ended how row)
+ended_whole how row was = record { layers = was.layers; apart = was.apart }
 
 owed_in : (f : Row → Row) (rows : List Row) (j : ℕ) (r : Row) → row_in rows j ≡ Some r
     → owed (change_row j f rows) + weight r ≡ owed rows + weight (f r)
@@ -68,8 +77,10 @@ end_holds t spare left how j r there none room kept =
     let sum = owed_in (row_ended how) t.rows j r there in
     let one = lighter how r none in
     let was = kept.room in record {
+      opened = kept.opened;
       caches = kept.caches;
-      slots = fresh_change t.store j (row_ended how) t.rows (ended_fresh t.store how) kept.slots;
+      slots = rows_change (AreFresh t.store) j (row_ended how) t.rows (ended_fresh t.store how) kept.slots;
+      shown = rows_change IsWhole j (row_ended how) t.rows (ended_whole how) kept.shown;
       room = omega (arith, sum, one, was, room);
     }
 
@@ -130,7 +141,13 @@ noted h a who left u journal kept longer allowed seen holds =
 
 -- an entry that changes nothing
 pub same_holds : (t : Tables) (spare left : ℕ) → spare ≤ left + 1 → owed t.rows + 1 ≤ spare → Holds t spare → Holds t left
-same_holds t spare left room owes kept = record { caches = kept.caches; slots = kept.slots; room = omega (arith, room, owes) }
+same_holds t spare left room owes kept = record {
+  opened = kept.opened;
+  caches = kept.caches;
+  slots = kept.slots;
+  shown = kept.shown;
+  room = omega (arith, room, owes);
+}
 
 -- ---- a view
 
@@ -139,14 +156,16 @@ unfolding IsDistinct
 viewed_current store view tab was = by (keeps_cache tab.view view)
   where
     by : (b : Bool) → IsCurrent store (record tab { view = Some view; paintings = (if b then tab.paintings else []) })
-    by true = record { present = was.present; apart = was.apart }
-    by false = record { present = tt; apart = tt }
+    by true = record { present = was.present; apart = was.apart; published = was.published }
+    by false = record { present = tt; apart = tt; published = was.published }
 
 pub view_holds : (t : Tables) (spare left c : ℕ) (view : PixelGrid) → spare ≤ left + 1 → owed t.rows + 1 ≤ spare → Holds t spare
     → Holds (record t { tabs = (change_at c (tab_viewed view) t.tabs) }) left
 view_holds t spare left c view room owes kept = record {
+  opened = kept.opened;
   caches = all_change (IsCurrent t.store) (tab_viewed view) (viewed_current t.store view) t.tabs c kept.caches;
   slots = kept.slots;
+  shown = kept.shown;
   room = omega (arith, room, owes);
 }
 
@@ -189,18 +208,34 @@ owed_cancelled c [] = omega arith
 owed_cancelled c (row ∷ rows) =
     let rest = owed_cancelled c rows in let one = cancelled_weight c row in omega (arith, rest, one)
 
-pub start_holds : (t : Tables) (spare left c : ℕ) (view : PixelGrid) → spare ≤ left + 1 → owed t.rows + 2 ≤ spare → Holds t spare
+cancelled_whole : (c : ℕ) (row : Row) → IsWhole row → IsWhole (row_cancelled c row)
+cancelled_whole c row was = by (row.canvas == c)
+  where
+    by : (b : Bool) → IsWhole (if b then row_ended Cancelled row else row)
+    by true = ended_whole Cancelled row was
+    by false = was
+
+new_layers : (layers : List Layer) → map slot_layer (map new_slot layers) ≡ map layer_id layers
+new_layers [] = refl
+new_layers (l ∷ ls) = ap (λ ids. l.core.id ∷ ids) (new_layers ls)
+
+pub start_holds : (t : Tables) (spare left c : ℕ) (view : PixelGrid) → IsDistinct nat_eq (map id_of t.store.layers) → spare ≤ left + 1
+    → owed t.rows + 2 ≤ spare → Holds t spare
     → Holds (record t { rows = (map (row_cancelled c) t.rows ++ new_row c t.store view ∷ []) }) left
-start_holds t spare left c view room owes kept =
+start_holds t spare left c view apart room owes kept =
     let new = new_row c t.store view in
     let sum = owed_more (map (row_cancelled c) t.rows) new in
     let less = owed_cancelled c t.rows in
     let none = none_missed (slots (project_of t.store) view) in
     record {
+      opened = kept.opened;
       caches = kept.caches;
       slots = all_more (AreFresh t.store) (map (row_cancelled c) t.rows) (new ∷ [])
           (all_map (AreFresh t.store) (AreFresh t.store) (row_cancelled c) (cancelled_fresh t.store c) t.rows kept.slots)
           (new_fresh t.store c view (slots (project_of t.store) view), tt);
+      shown = all_more IsWhole (map (row_cancelled c) t.rows) (new ∷ [])
+          (all_map IsWhole IsWhole (row_cancelled c) (cancelled_whole c) t.rows kept.shown)
+          (record { layers = new_layers (slots (project_of t.store) view); apart = apart }, tt);
       room = omega (arith, sum, less, none, room, owes);
     }
 
@@ -233,7 +268,7 @@ missed_change f (y ∷ ys) zero x is =
     (omega arith)
 missed_change f (y ∷ ys) (suc at) x is = let rest = missed_change f ys at x is in omega (arith, rest)
 
-stands_fresh : (store : StoreParts) (at : ℕ) (standing : Standing) (row : Row) → AreFresh store row
+pub stands_fresh : (store : StoreParts) (at : ℕ) (standing : Standing) (row : Row) → AreFresh store row
     → AreFresh store (row_stands at standing row)
 stands_fresh store at standing row was = by row.ended was
   where
@@ -241,6 +276,14 @@ stands_fresh store at standing row was = by row.ended was
         → WhileLive o (AllByRecursion (IsFresh store row) (change_at at (slot_stands standing) row.slots))
     by None h = all_change (IsFresh store row) (slot_stands standing) (λ x h. h) row.slots at h
     by (Some how) h = tt
+
+standing_layers : (at : ℕ) (standing : Standing) (list : List Slot) → map slot_layer (change_at at (slot_stands standing) list) ≡ map slot_layer list
+standing_layers at standing [] = refl
+standing_layers zero standing (x ∷ xs) = refl
+standing_layers (suc at) standing (x ∷ xs) = ap (λ ids. x.layer ∷ ids) (standing_layers at standing xs)
+
+pub stands_whole : (at : ℕ) (standing : Standing) (row : Row) → IsWhole row → IsWhole (row_stands at standing row)
+stands_whole at standing row was = record { layers = standing_layers at standing row.slots ∙ was.layers; apart = was.apart }
 
 -- a slot that was being painted isn't any more
 pub stand_holds : (t : Tables) (spare left : ℕ) (who j at : ℕ) (standing : Standing) (r : Row) (x : Slot) → row_in t.rows j ≡ Some r
@@ -252,8 +295,10 @@ stand_holds t spare left who j at standing r x there is was none room kept =
     let before : missed_weight x ≡ 1 = ap (λ s. if is_missed s then 1 else 0) was in
     let after : missed_weight (slot_stands standing x) ≡ 0 = ap (λ b. if b then 1 else 0) none in
     let held = kept.room in record {
+      opened = kept.opened;
       caches = kept.caches;
-      slots = fresh_change t.store j (row_stands at standing) t.rows (stands_fresh t.store at standing) kept.slots;
+      slots = rows_change (AreFresh t.store) j (row_stands at standing) t.rows (stands_fresh t.store at standing) kept.slots;
+      shown = rows_change IsWhole j (row_stands at standing) t.rows (stands_whole at standing) kept.shown;
       room = omega (arith, sum, one, before, after, held, room);
     }
 
@@ -315,8 +360,9 @@ delivered_noted h fate who j at left standing rows journal r x kept there is was
 
 -- ---- a finish
 
-published_current : (store : StoreParts) (j : ℕ) (row : Row) (tab : Tab) → IsCurrent store tab → IsCurrent store (tab_publishes j row tab)
-published_current store j row tab was = record { present = was.present; apart = was.apart }
+published_current : (store : StoreParts) (j : ℕ) (row : Row) → IsWhole row → (tab : Tab) → IsCurrent store tab
+    → IsCurrent store (tab_publishes j row tab)
+published_current store j row whole tab was = record { present = was.present; apart = was.apart; published = whole }
 
 finish_seen : (h : History) (who j : ℕ) (r : Row) (tabs : List Tab) (rows : List Row) → row_in h.tables.rows j ≡ Some r
     → tabs ≡ change_at r.canvas (tab_publishes j r) h.tables.tabs → rows ≡ change_row j (row_ended Finished) h.tables.rows
@@ -344,11 +390,13 @@ pub finish_noted : (h : History) (who j left : ℕ) (tabs : List Tab) (rows : Li
     IsDesk new × Notes h new who (act.Finish j)
 finish_noted h who j left tabs rows journal r kept there composer none published made longer room =
     let ended = end_holds h.tables h.spare left Finished j r there none room kept.holds in
-    let caches = all_change (IsCurrent h.tables.store) (tab_publishes j r) (published_current h.tables.store j r) h.tables.tabs r.canvas
-    kept.holds.caches in
+    let caches = all_change (IsCurrent h.tables.store) (tab_publishes j r)
+    (published_current h.tables.store j r (row_kept IsWhole j h.tables.rows r kept.holds.shown there)) h.tables.tabs r.canvas kept.holds.caches in
     let holds : Holds (record h.tables { tabs = tabs; rows = rows }) left = record {
+      opened = kept.holds.opened;
       caches = subst (AllByRecursion (IsCurrent h.tables.store)) (sym published) caches;
       slots = subst (AllByRecursion (AreFresh h.tables.store)) (sym made) ended.slots;
+      shown = subst (AllByRecursion IsWhole) (sym made) ended.shown;
       room = subst (λ l. owed l ≤ left) (sym made) ended.room;
     } in
     let allowed = subst (λ o. IsSomeAnd o (λ (job : Job). (job.composer ≡ Some who) × (job.ended ≡ None)))

@@ -1,3 +1,5 @@
 -- Lemmas on the desk.
 pub mod SeenLemmas
 pub mod KeepingLemmas
+pub mod EditedLemmas
+pub mod OpeningLemmas

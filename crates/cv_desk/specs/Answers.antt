@@ -10,9 +10,10 @@ use Rattle.cv_model.specs.Views.{PixelGrid, IsView}
 use Rattle.cv_event.specs.declared.entry.Act.TheVariants as act
 use Rattle.cv_event.specs.declared.slot.Slot.{Slot}
 use Rattle.cv_event.specs.States.{State, view_on, job_in}
-use Rattle.cv_event.specs.Legality.{OfJob, hits}
-use Rattle.cv_store.specs.Answers.{told_by}
-use Rattle.cv_tables.specs.Rows.{Row, row_in, input_of, compose_of}
+use Rattle.cv_event.specs.declared.slot.Task.{Task}
+use Rattle.cv_event.specs.declared.slot.Task.TheVariants.{Look, Compose}
+use Rattle.cv_event.specs.Legality.{OfJob, task, hits}
+use Rattle.cv_tables.specs.Rows.{Row, HasSlot, row_in, input_of, compose_of, whole_of}
 use Rattle.cv_desk.specs.declared.errors.EndError.{EndError}
 use Rattle.cv_desk.specs.declared.errors.EndError.TheVariants as end_error
 use Rattle.cv_desk.specs.declared.errors.StartError.{StartError}
@@ -21,6 +22,12 @@ use Rattle.cv_desk.specs.declared.errors.SetViewError.{SetViewError}
 use Rattle.cv_desk.specs.declared.errors.SetViewError.TheVariants as view_error
 use Rattle.cv_desk.specs.declared.errors.PreviewError.{PreviewError}
 use Rattle.cv_desk.specs.declared.errors.PreviewError.TheVariants as preview_error
+use Rattle.cv_desk.specs.declared.errors.SaveError.{SaveError}
+use Rattle.cv_desk.specs.declared.errors.SaveError.TheVariants as save_error
+use Rattle.cv_desk.specs.declared.errors.ClaimError.{ClaimError}
+use Rattle.cv_desk.specs.declared.errors.ClaimError.TheVariants as claim_error
+use Rattle.cv_desk.specs.declared.tasks.Claim.{Claim}
+use Rattle.cv_desk.specs.declared.tasks.Claim.TheVariants as claim
 use Rattle.cv_desk.specs.Desks.{History, state, Notes, Stays}
 
 -- a start: the next number where the canvas has a view and numbers are left
@@ -56,10 +63,26 @@ PreviewAnswer h j (Err preview_error.UnknownJob) = IsNone (row_in h.tables.rows 
 PreviewAnswer h j (Err (preview_error.Ended e)) = IsSomeAnd (row_in h.tables.rows j) (λ row. row.ended ≡ Some e)
 PreviewAnswer h j (Err preview_error.NoMemory) = Unit {0}
 
--- an edit: as the verdict of the present project says
+-- a picture: of all slots of the last job that was finished on the canvas
+abbrev pub SaveAnswer : History → ℕ → Result Composition SaveError → Type 0
+SaveAnswer h c (Ok image) =
+    IsSomeAnd (slice_get h.tables.tabs c) (λ tab. IsSomeAnd tab.published (λ last. image ≡ whole_of last.row))
+SaveAnswer h c (Err save_error.UnknownCanvas) = IsNone (slice_get (state h).canvases c)
+SaveAnswer h c (Err save_error.Nothing) = IsSomeAnd (slice_get (state h).canvases c) (λ k. k.published ≡ None)
+SaveAnswer h c (Err save_error.NoMemory) = Unit {0}
+
+-- its entry names that job
+abbrev pub SaveNotes : History → History → ℕ → ℕ → Result Composition SaveError → Type 0
+SaveNotes old new who c (Ok image) = IsSomeAnd (slice_get (state old).canvases c)
+    (λ k. IsSomeAnd k.published (λ last. Notes old new who (act.Save c last.job)))
+SaveNotes old new who c (Err error) = Stays old new
+
+-- an edit: as the verdict of the present project says; its place in the journal is set aside first, so that
+-- want of memory may come of an edit that would be refused
 abbrev pub EditAnswer : State → Edit → Result (Unit {0}) EditError → Type 0
 EditAnswer s e (Ok _) = verdict s.project s.accepted e ≡ None
-EditAnswer s e (Err error) = verdict s.project s.accepted e ≡ told_by error
+EditAnswer s e (Err NoMemory) = Unit {0}
+EditAnswer s e (Err error) = verdict s.project s.accepted e ≡ Some error
 
 -- it is an entry with its verdict, but for want of memory
 abbrev pub EditNotes : History → History → ℕ → Edit → Result (Unit {0}) EditError → Type 0
@@ -76,6 +99,10 @@ HitNotes old new who j at false = (new ≡ old) × (hits (state old) j at ≡ fa
 abbrev pub IsPiece : Input → PixelGrid → Row → Slot → Type 0
 IsPiece input view row slot = (input_of row.store slot ≡ Some input) × (view ≡ row.view)
 
+-- a task is of this job
+abbrev pub IsOfJob : ℕ → Task → Type 0
+IsOfJob j (Look k at) = k ≡ j
+IsOfJob j (Compose k) = k ≡ j
 
 -- a claim: the task that is due, a hit where the cache may serve it, the job's own input and view where it
 -- can't, and a composition of all slots; nothing where nothing is due; want of memory names the task's job

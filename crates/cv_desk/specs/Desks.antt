@@ -2,19 +2,19 @@
 --
 -- Source: in outline the developer documentation of QGIS (`QgsMapRendererParallelJob`, `QgsMapRendererCache`). All
 -- rules are this project's own.
-use Rattle.std.specs.Prelude.{◌≡◌, ◌≤◌, ◌++◌, ◌∷◌, [], ℕ, false, nat_eq, List, map, Option, Some}
+use Rattle.std.specs.Prelude.{◌≡◌, ◌≤◌, ◌++◌, ◌∷◌, [], ℕ, false, nat_eq, List, map, Some, IfSome}
 use Rattle.std.specs.List.{AllByRecursion, IsDistinct}
 use Rattle.cv_model.specs.declared.project.CanvasSpec.{CanvasSpec}
-use Rattle.cv_model.specs.Layers.{Opening}
+use Rattle.cv_model.specs.Layers.{Opening, slots}
 use Rattle.cv_model.specs.Paintings.{Painting}
-use Rattle.cv_store.specs.Stores.{StoreParts, project_of, input_in}
+use Rattle.cv_store.specs.Stores.{StoreParts, project_of, id_of, input_in}
 use Rattle.cv_cache.specs.Caches.{painted_id}
 use Rattle.cv_event.specs.declared.entry.Act.{Act}
 use Rattle.cv_event.specs.declared.entry.Entry.{Entry}
 use Rattle.cv_event.specs.declared.slot.Slot.{Slot}
 use Rattle.cv_event.specs.States.{State, did, replay}
 use Rattle.cv_event.specs.Legality.{Allows, IsLegal}
-use Rattle.cv_tables.specs.Rows.{Row, input_of, owed, WhileLive}
+use Rattle.cv_tables.specs.Rows.{Row, input_of, owed, slot_layer, layer_id, WhileLive}
 use Rattle.cv_tables.specs.Tabs.{Tab, Tables, state_of}
 
 -- a desk: its opening, the entries of its journal, how many more have a place set aside, and its tables
@@ -34,10 +34,17 @@ state h = state_of h.tables
 abbrev pub IsPresent : StoreParts → Painting → Type 0
 IsPresent store p = input_in store (painted_id p) ≡ Some p.input
 
--- those of a canvas are, and no two are of one layer
+-- a job's slots are those of its project at its view, and no two layers of the project have one id
+pub record IsWhole (row : Row) : Type 0 where
+  pub layers : map slot_layer row.slots ≡ map layer_id (slots (project_of row.store) row.view)
+  pub apart : IsDistinct nat_eq (map id_of row.store.layers)
+
+-- the painted layers of a canvas are present ones, no two are of one layer, and the job is whole whose picture it
+-- has published
 pub record IsCurrent (store : StoreParts) (tab : Tab) : Type 0 where
   pub present : AllByRecursion (IsPresent store) tab.paintings
   pub apart : IsDistinct nat_eq (map painted_id tab.paintings)
+  pub published : IfSome tab.published (λ last. IsWhole last.row)
 
 -- a slot that wasn't touched is painted from what its layer is painted from at present
 abbrev pub IsFresh : StoreParts → Row → Slot → Type 0
@@ -46,11 +53,13 @@ IsFresh store row slot = slot.touched ≡ false → input_of store slot ≡ inpu
 abbrev pub AreFresh : StoreParts → Row → Type 0
 AreFresh store row = WhileLive row.ended (AllByRecursion (IsFresh store row) row.slots)
 
--- what holds of the tables beside the state: caches and untouched slots are of the present project, and the
--- journal has a place for each entry that is owed to it
+-- what holds of the tables beside the state: the store was opened, caches and untouched slots are of the present
+-- project, jobs are whole, and the journal has a place for each entry that is owed to it
 pub record Holds (t : Tables) (spare : ℕ) : Type 0 where
+  pub opened : 1 ≤ t.store.version
   pub caches : AllByRecursion (IsCurrent t.store) t.tabs
   pub slots : AllByRecursion (AreFresh t.store) t.rows
+  pub shown : AllByRecursion IsWhole t.rows
   pub room : owed t.rows ≤ spare
 
 -- a desk's journal is legal, and its tables are those of the state after it

@@ -2,29 +2,24 @@
 
 ghost use Rattle.std.specs.Prelude.{◌≡◌, ◌≤◌, ◌<◌, ◌+◌, ◌==◌, ◌&&◌, not, false, length, slice_get, Some, None};
 ghost use Rattle.std.specs.Prelude.{IfOk, IfErr, OnOk, OnErr, IsSome, IsSomeAnd};
-ghost use Rattle.cv_event.specs.declared.entry.Act.TheVariants as act;
-ghost use Rattle.cv_event.specs.declared.slot.Standing.TheVariants.{Missed};
-ghost use Rattle.cv_model.specs.Views.{IsView};
-ghost use Rattle.cv_event.specs.States.{job_in, view_on};
-ghost use Rattle.cv_event.specs.declared.entry.Fate.TheVariants.{Stored, Kept, Dropped};
-ghost use Rattle.cv_event.specs.declared.slot.Slot.{Slot};
-ghost use Rattle.cv_event.specs.declared.slot.Task.TheVariants.{Look, Compose};
-ghost use Rattle.cv_event.specs.States.{Canvas};
-ghost use Rattle.cv_event.specs.Legality.{OfJob, ready_bits, shows, fate_of, task, hits};
 ghost use Rattle.std.specs.Option.{option_map_or};
-ghost use Rattle.cv_tables.specs.Rows.{Row, HasSlot, IsPaintingOf, job_of, owed, painting_of, row_in, whole_of};
+ghost use Rattle.cv_model.specs.Views.{IsView};
+ghost use Rattle.cv_event.specs.declared.entry.Act.TheVariants as act;
+ghost use Rattle.cv_event.specs.declared.entry.Fate.TheVariants.{Kept, Dropped};
+ghost use Rattle.cv_event.specs.declared.slot.Slot.{Slot};
+ghost use Rattle.cv_event.specs.declared.slot.Standing.TheVariants.{Missed};
+ghost use Rattle.cv_event.specs.States.{Canvas, job_in, view_on};
+ghost use Rattle.cv_event.specs.Legality.{OfJob, ready_bits, shows, fate_of};
+ghost use Rattle.cv_tables.specs.Rows.{Row, HasSlot, IsPaintingOf, job_of, owed, row_in, whole_of};
 ghost use Rattle.cv_desk.specs.Desks.{state, Notes, Stays};
-ghost use Rattle.cv_desk.specs.Answers.{StartAnswer, ViewAnswer, FitsCanvas, EndAnswer, EditAnswer, EditNotes};
-ghost use Rattle.cv_desk.specs.Answers.{HitNotes, IsPiece};
+ghost use Rattle.cv_desk.specs.Answers.{StartAnswer, ViewAnswer, FitsCanvas, EndAnswer};
 
-use crate::errors::{
-    ClaimError, EndError, PreviewError, SaveError, SetViewError, StartError, UnknownJob,
-};
+use crate::errors::{EndError, SetViewError, StartError, UnknownJob};
 use cv_chunks::Shared;
-use cv_compose::{ComposeInput, Composed};
+use cv_compose::Composed;
 use cv_event::{Act, Entry, Fate, How, Journal};
-use cv_layer::{NoMemory, PaintedLayer, Piece};
-use cv_model::{CanvasSpec, Edit, EditError, View};
+use cv_layer::{NoMemory, PaintedLayer};
+use cv_model::{CanvasSpec, View};
 use cv_store::Store;
 use cv_tables::{CanvasTable, JobTable};
 use std::alloc::Global;
@@ -220,6 +215,8 @@ impl Desk {
         ensures ok { IfOk result (λ job. Notes self.old self.new who (act.Start canvas job)) }
         ensures err { OnErr result (self.new ≡ self.old) }
     {
+        // It says that the ids of the store's layers differ.
+        let _ = self.store.len();
         match self.jobs.start(self.alloc, canvas, &self.store, view) {
             Ok(job) => {
                 self.journal.push(Entry {

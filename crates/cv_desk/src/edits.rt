@@ -1,35 +1,48 @@
 //! Edits of the project.
 
-ghost use Rattle.std.specs.Prelude.{◌≡◌, ◌≤◌, ◌<◌, ◌+◌, ◌==◌, ◌&&◌, not, false, length, slice_get, Some, None};
-ghost use Rattle.std.specs.Prelude.{IfOk, IfErr, OnOk, OnErr, IsSome, IsSomeAnd};
-ghost use Rattle.cv_event.specs.declared.entry.Act.TheVariants as act;
-ghost use Rattle.cv_event.specs.declared.slot.Standing.TheVariants.{Missed};
-ghost use Rattle.cv_model.specs.Views.{IsView};
-ghost use Rattle.cv_event.specs.States.{job_in, view_on};
-ghost use Rattle.cv_event.specs.declared.entry.Fate.TheVariants.{Stored, Kept, Dropped};
-ghost use Rattle.cv_event.specs.declared.slot.Slot.{Slot};
-ghost use Rattle.cv_event.specs.declared.slot.Task.TheVariants.{Look, Compose};
-ghost use Rattle.cv_event.specs.States.{Canvas};
-ghost use Rattle.cv_event.specs.Legality.{OfJob, ready_bits, shows, fate_of, task, hits};
-ghost use Rattle.std.specs.Option.{option_map_or};
-ghost use Rattle.cv_tables.specs.Rows.{Row, HasSlot, IsPaintingOf, job_of, owed, painting_of, row_in, whole_of};
-ghost use Rattle.cv_desk.specs.Desks.{state, Notes, Stays};
-ghost use Rattle.cv_desk.specs.Answers.{StartAnswer, ViewAnswer, FitsCanvas, EndAnswer, EditAnswer, EditNotes};
-ghost use Rattle.cv_desk.specs.Answers.{HitNotes, IsPiece};
+ghost use Rattle.std.specs.Prelude.{◌≡◌, ◌≤◌, ◌+◌, Err};
+ghost use Rattle.cv_model.specs.Edits.{verdict};
+ghost use Rattle.cv_store.specs.Answers.{told_by};
+ghost use Rattle.cv_tables.specs.Rows.{owed};
+ghost use Rattle.cv_desk.specs.Desks.{state};
+ghost use Rattle.cv_desk.specs.Answers.{EditAnswer, EditNotes};
 
 use crate::desk::Desk;
-use crate::errors::{ClaimError, PreviewError, SaveError};
 use cv_chunks::Shared;
-use cv_compose::{ComposeInput, Composed};
-use cv_event::{Act, Entry, Fate};
-use cv_layer::{NoMemory, PaintedLayer, Piece};
-use cv_model::{CanvasSpec, Edit, EditError};
-use cv_store::Store;
-use cv_tables::{CanvasTable, JobTable};
-use std::alloc::Global;
-use std::snapshot::Snapshot;
+use cv_event::{Act, Entry};
+use cv_model::{Edit, EditError};
+
+/// The verdict that an error of a store tells: there is none where memory was wanted.
+fn told(error: EditError) -> Option<EditError>
+    ensures { result ≡ told_by error }
+{
+    match error {
+        EditError::UnknownLayer => Some(EditError::UnknownLayer),
+        EditError::UnknownFeature => Some(EditError::UnknownFeature),
+        EditError::WrongKind => Some(EditError::WrongKind),
+        EditError::DuplicateId => Some(EditError::DuplicateId),
+        EditError::Limit => Some(EditError::Limit),
+        EditError::BadPlace => Some(EditError::BadPlace),
+        EditError::NoMemory => None,
+    }
+}
 
 impl Desk {
+    /// Puts an edit that was refused with its verdict behind the journal, but for want of memory.
+    fn note_refused(&mut self, who: u32, edit: Shared<Edit>, error: EditError)
+        requires room { owed self.old.tables.rows + 1 ≤ self.old.spare }
+        requires told { verdict (state self.old).project (state self.old).accepted edit ≡ told_by error }
+        ensures { EditNotes self.old self.new who edit (Err error) }
+    {
+        let Some(verdict) = told(error) else {
+            return;
+        };
+        self.journal.push(Entry {
+            caller: who,
+            act: Act::Edit(edit, Some(verdict)),
+        });
+    }
+
     /// Makes an edit, and puts it with its verdict behind the journal.
     fn note_edit(&mut self, who: u32, edit: Shared<Edit>) -> Result<(), EditError>
         requires { owed self.old.tables.rows + 1 ≤ self.old.spare }
@@ -46,12 +59,8 @@ impl Desk {
                 });
                 Ok(())
             }
-            Err(EditError::NoMemory) => Err(EditError::NoMemory),
             Err(error) => {
-                self.journal.push(Entry {
-                    caller: who,
-                    act: Act::Edit(edit, Some(error)),
-                });
+                self.note_refused(who, edit, error);
                 Err(error)
             }
         }

@@ -27,7 +27,7 @@ invariant_of-self c =
     let view = subst (λ n. view_on (state n) c.args.canvas ≡ Some c.args.view) (sym c.self.view_is) c.requires.view in
     let few = subst (λ n. length n.tables.rows < 4294967295) (sym c.self.view_is) c.requires.few in
     let holds = subst (λ l. Holds (record h.tables { rows = l }) c.push.new.self.spare) (sym c.in-Ok.ensures.ok)
-    (start_holds h.tables h.spare c.push.new.self.spare c.args.canvas c.args.view c.push.ensures.spare room c.self.invariant.holds) in
+    (start_holds h.tables h.spare c.push.new.self.spare c.args.canvas c.args.view c.len.ensures.kept.distinct c.push.ensures.spare room c.self.invariant.holds) in
     let both = noted h a c.args.who c.push.new.self.spare (record h.tables { rows = rows }) c.push.new.self.entries c.self.invariant
     c.push.ensures.entries (started_rows h c.args.who c.args.canvas c.in-Ok.job c.args.view view c.in-Ok.ensures.number few)
     (start_seen h c.args.who c.args.canvas c.in-Ok.job c.args.view rows view c.in-Ok.ensures.ok) holds in
@@ -50,7 +50,7 @@ returns-in-Ok-clause-ok c =
     let view = subst (λ n. view_on (state n) c.args.canvas ≡ Some c.args.view) (sym c.self.view_is) c.requires.view in
     let few = subst (λ n. length n.tables.rows < 4294967295) (sym c.self.view_is) c.requires.few in
     let holds = subst (λ l. Holds (record h.tables { rows = l }) c.push.new.self.spare) (sym c.in-Ok.ensures.ok)
-    (start_holds h.tables h.spare c.push.new.self.spare c.args.canvas c.args.view c.push.ensures.spare room c.self.invariant.holds) in
+    (start_holds h.tables h.spare c.push.new.self.spare c.args.canvas c.args.view c.len.ensures.kept.distinct c.push.ensures.spare room c.self.invariant.holds) in
     let both = noted h a c.args.who c.push.new.self.spare (record h.tables { rows = rows }) c.push.new.self.entries c.self.invariant
     c.push.ensures.entries (started_rows h c.args.who c.args.canvas c.in-Ok.job c.args.view view c.in-Ok.ensures.number few)
     (start_seen h c.args.who c.args.canvas c.in-Ok.job c.args.view rows view c.in-Ok.ensures.ok) holds in
