@@ -1,7 +1,7 @@
 -- An accepted edit: what of the tables it leaves.
 use Rattle.std.proofs.Common.{◌≡◌, ◌∙◌, sym, ap, refl, subst, ℕ, suc, ◌+◌, ◌-◌, ◌≤◌, Bool, true, false, not, ◌||◌, cond, nat_eq}
 use Rattle.std.proofs.Common.{List, [], ◌∷◌, ◌++◌, Err, map, filter, Option, Some, None, option_map, is_some, arith, if◌then◌else◌}
-use Rattle.std.specs.List.{AllByRecursion, IsDistinct, list_any}
+use Rattle.std.specs.List.{AllByRecursion, list_any}
 use Rattle.std.specs.Option.{option_map_or}
 use Rattle.cv_model.specs.declared.edit.Edit.{Edit}
 use Rattle.cv_model.specs.declared.edit.EditError.{EditError}
@@ -76,27 +76,6 @@ all_left P Q layer keeps (p ∷ ps) h = by (depends_on layer p) refl (all_left P
     by true is rest = rest
     by false is rest = (keeps p h.0 is, rest)
 
-others_left : (id layer : ℕ) (ps : List Painting) → AllByRecursion (λ k. nat_eq id k ≡ false) (map painted_id ps)
-    → AllByRecursion (λ k. nat_eq id k ≡ false) (map painted_id (independent layer ps))
-others_left id layer [] h = tt
-others_left id layer (p ∷ ps) h = by (depends_on layer p) (others_left id layer ps h.1)
-  where
-    by : (b : Bool) → AllByRecursion (λ k. nat_eq id k ≡ false) (map painted_id (independent layer ps))
-        → AllByRecursion (λ k. nat_eq id k ≡ false) (map painted_id (cond (not b) (p ∷ independent layer ps) (independent layer ps)))
-    by true rest = rest
-    by false rest = (h.0, rest)
-
-apart_left : (layer : ℕ) (ps : List Painting) → IsDistinct nat_eq (map painted_id ps)
-    → IsDistinct nat_eq (map painted_id (independent layer ps))
-unfolding IsDistinct
-apart_left layer [] h = tt
-apart_left layer (p ∷ ps) h = by (depends_on layer p) (apart_left layer ps h.1)
-  where
-    by : (b : Bool) → IsDistinct nat_eq (map painted_id (independent layer ps))
-        → IsDistinct nat_eq (map painted_id (cond (not b) (p ∷ independent layer ps) (independent layer ps)))
-    by true rest = rest
-    by false rest = (others_left (painted_id p) layer ps h.0, rest)
-
 edited_current : (s t : StoreParts) (e : Edit) (tab : Tab) → IsEdited s e t → IsCurrent s tab → IsCurrent t (tab_edited e tab)
 edited_current s t e tab h was = by (touched e) refl
   where
@@ -108,11 +87,10 @@ edited_current s t e tab h was = by (touched e) refl
     all_stay (p ∷ ps) is h = (stays_present p h.0 (frame_spares e (deps (project_of s) (painted_id p)) is), all_stay ps is h.1)
 
     by : (o : Option ℕ) → touched e ≡ o → IsCurrent t (record tab { paintings = (left_by o tab.paintings) })
-    by None is = record { present = all_stay tab.paintings is was.present; apart = was.apart; published = was.published }
+    by None is = record { present = all_stay tab.paintings is was.present; published = was.published }
     by (Some layer) is = record {
       present = all_left (IsPresent s) (IsPresent t) layer
           (λ p present apart. stays_present p present (spared s e layer p is present apart)) tab.paintings was.present;
-      apart = apart_left layer tab.paintings was.apart;
       published = was.published;
     }
 

@@ -152,12 +152,11 @@ same_holds t spare left room owes kept = record {
 -- ---- a view
 
 viewed_current : (store : StoreParts) (view : PixelGrid) (tab : Tab) → IsCurrent store tab → IsCurrent store (tab_viewed view tab)
-unfolding IsDistinct
 viewed_current store view tab was = by (keeps_cache tab.view view)
   where
     by : (b : Bool) → IsCurrent store (record tab { view = Some view; paintings = (if b then tab.paintings else []) })
-    by true = record { present = was.present; apart = was.apart; published = was.published }
-    by false = record { present = tt; apart = tt; published = was.published }
+    by true = record { present = was.present; published = was.published }
+    by false = record { present = tt; published = was.published }
 
 pub view_holds : (t : Tables) (spare left c : ℕ) (view : PixelGrid) → spare ≤ left + 1 → owed t.rows + 1 ≤ spare → Holds t spare
     → Holds (record t { tabs = (change_at c (tab_viewed view) t.tabs) }) left
@@ -362,7 +361,7 @@ delivered_noted h fate who j at left standing rows journal r x kept there is was
 
 published_current : (store : StoreParts) (j : ℕ) (row : Row) → IsWhole row → (tab : Tab) → IsCurrent store tab
     → IsCurrent store (tab_publishes j row tab)
-published_current store j row whole tab was = record { present = was.present; apart = was.apart; published = whole }
+published_current store j row whole tab was = record { present = was.present; published = whole }
 
 finish_seen : (h : History) (who j : ℕ) (r : Row) (tabs : List Tab) (rows : List Row) → row_in h.tables.rows j ≡ Some r
     → tabs ≡ change_at r.canvas (tab_publishes j r) h.tables.tabs → rows ≡ change_row j (row_ended Finished) h.tables.rows

@@ -1,6 +1,6 @@
 -- A desk as it is opened.
 use Rattle.std.proofs.Common.{◌≡◌, ◌∙◌, sym, ap, refl, subst, ℕ, ◌-◌, ◌≤◌, List, [], ◌∷◌, map, arith, None}
-use Rattle.std.specs.List.{AllByRecursion, IsDistinct}
+use Rattle.std.specs.List.{AllByRecursion}
 use Rattle.cv_model.specs.declared.project.CanvasSpec.{CanvasSpec}
 use Rattle.cv_store.specs.Stores.{StoreParts, project_of}
 use Rattle.cv_event.specs.declared.entry.Entry.{Entry}
@@ -19,9 +19,8 @@ tabs_seen [] = refl
 tabs_seen (spec ∷ specs) = ap (λ l. new_canvas spec ∷ l) (tabs_seen specs)
 
 new_current : (store : StoreParts) (specs : List CanvasSpec) → AllByRecursion (IsCurrent store) (map new_tab specs)
-unfolding IsDistinct
 new_current store [] = tt
-new_current store (spec ∷ specs) = (record { present = tt; apart = tt; published = tt }, new_current store specs)
+new_current store (spec ∷ specs) = (record { present = tt; published = tt }, new_current store specs)
 
 opened_at : (store : StoreParts) (specs : List CanvasSpec) (spare : ℕ) → store.version ≡ 1
     → IsDesk (record {

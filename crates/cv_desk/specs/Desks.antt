@@ -39,11 +39,9 @@ pub record IsWhole (row : Row) : Type 0 where
   pub layers : map slot_layer row.slots ≡ map layer_id (slots (project_of row.store) row.view)
   pub apart : IsDistinct nat_eq (map id_of row.store.layers)
 
--- the painted layers of a canvas are present ones, no two are of one layer, and the job is whole whose picture it
--- has published
+-- the painted layers of a canvas are present ones, and the job is whole whose picture it has published
 pub record IsCurrent (store : StoreParts) (tab : Tab) : Type 0 where
   pub present : AllByRecursion (IsPresent store) tab.paintings
-  pub apart : IsDistinct nat_eq (map painted_id tab.paintings)
   pub published : IfSome tab.published (λ last. IsWhole last.row)
 
 -- a slot that wasn't touched is painted from what its layer is painted from at present
