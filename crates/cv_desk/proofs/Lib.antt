@@ -3,3 +3,5 @@ pub mod SeenLemmas
 pub mod KeepingLemmas
 pub mod EditedLemmas
 pub mod OpeningLemmas
+pub mod PaintedLemmas
+pub mod TaskLemmas
