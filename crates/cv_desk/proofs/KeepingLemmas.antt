@@ -66,7 +66,7 @@ row_kept P (suc at) rows r h is = all_at P rows at r h is
 ended_whole : (how : How) (row : Row) → IsWhole row → IsWhole (row_ended how row)
 ended_whole how row was = record { layers = was.layers; apart = was.apart }
 
-owed_in : (f : Row → Row) (rows : List Row) (j : ℕ) (r : Row) → row_in rows j ≡ Some r
+pub owed_in : (f : Row → Row) (rows : List Row) (j : ℕ) (r : Row) → row_in rows j ≡ Some r
     → owed (change_row j f rows) + weight r ≡ owed rows + weight (f r)
 owed_in f rows zero r is = absurd cc
 owed_in f rows (suc at) r is = owed_change f rows at r is
@@ -260,7 +260,7 @@ started_rows h who c j view there is few =
 
 -- ---- a delivery
 
-missed_change : (f : Slot → Slot) (list : List Slot) (at : ℕ) (x : Slot) → slice_get list at ≡ Some x
+pub missed_change : (f : Slot → Slot) (list : List Slot) (at : ℕ) (x : Slot) → slice_get list at ≡ Some x
     → missed_in (change_at at f list) + missed_weight x ≡ missed_in list + missed_weight (f x)
 missed_change f [] at x is = absurd cc
 missed_change f (y ∷ ys) zero x is =

@@ -104,10 +104,13 @@ impl Desk {
         ensures err { OnErr result (self.new ≡ self.old) }
     {
         let Some(row) = self.jobs.get(job) else {
-            return Ok(false);
+            unreachable!()
         };
-        let (Some(at), Some(input)) = (row.slot(slot), row.input(slot)) else {
-            return Ok(false);
+        let Some(at) = row.slot(slot) else {
+            unreachable!()
+        };
+        let Some(input) = row.input(slot) else {
+            unreachable!()
         };
         if at.touched || !self.shows(row.canvas(), row.view()) {
             return Ok(false);
