@@ -271,6 +271,11 @@ dependent_removed layer (x ∷ es) e apart h = by (depends layer x) refl h (depe
           ap (λ b. suc (length (cond b es (x ∷ remove_entry (nat_eq e.0) es)))) key ∙ ap suc rest.1,
         )
 
+-- no layers differ
+pub none_apart : IsDistinct nat_eq (map painted_id [])
+unfolding IsDistinct
+none_apart = tt
+
 -- ---- what a look makes of a cache that is there
 
 abbrev pub seen_in : Option (LruCache ℕ Painting) → CacheParts

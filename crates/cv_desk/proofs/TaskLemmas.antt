@@ -1,6 +1,6 @@
 -- What comes of a task: of a look that hits or misses, of a delivery that a cache takes, and of a composition.
 use Rattle.std.proofs.Common.{◌≡◌, ◌∙◌, sym, ap, refl, subst, ℕ, zero, suc, ◌+◌, ◌≤◌, Bool, true, false, not, ◌&&◌, List, [], ◌∷◌, ◌++◌}
-use Rattle.std.proofs.Common.{map, Option, Some, None, slice_get, option_map, IsSomeAnd, is_some, arith, if◌then◌else◌, ◌==◌}
+use Rattle.std.proofs.Common.{map, Option, Some, None, slice_get, option_map, option_and_then, IsSomeAnd, is_some, arith, if◌then◌else◌, ◌==◌}
 use Rattle.std.specs.List.{AllByRecursion, list_any, list_all}
 use Rattle.std.specs.Option.{option_map_or}
 use Rattle.std.proofs.lemmas.Bool.{false≢true}
@@ -9,7 +9,8 @@ use Rattle.cv_model.specs.Views.{PixelGrid}
 use Rattle.cv_cache.specs.Caches.{painted_id, Serves}
 use Rattle.cv_event.specs.declared.entry.Act.TheVariants as act
 use Rattle.cv_event.specs.declared.entry.Entry.{Entry}
-use Rattle.cv_event.specs.declared.entry.Fate.TheVariants.{Stored}
+use Rattle.cv_event.specs.declared.entry.Fate.{Fate}
+use Rattle.cv_event.specs.declared.entry.Fate.TheVariants.{Stored, Kept, Dropped}
 use Rattle.cv_event.specs.declared.entry.How.{How}
 use Rattle.cv_event.specs.declared.slot.Slot.{Slot}
 use Rattle.cv_event.specs.declared.slot.Standing.{Standing}
@@ -17,41 +18,118 @@ use Rattle.cv_event.specs.declared.slot.Standing.TheVariants.{Open, Missed, Read
 use Rattle.cv_event.specs.declared.slot.Task.TheVariants.{Look, Compose}
 use Rattle.cv_event.specs.States.{Job, Cached, Canvas, State, change_at, change_job, job_in, did, slot_stands, stands_at, composed_by}
 use Rattle.cv_event.specs.States.{with_cache, served, stored, image_of_slot, change_cache, canvases_delivered, canvases_looked}
-use Rattle.cv_event.specs.Legality.{OfSlot, is_open, is_ready, all_ready, task, shows, is_fresh, is_image, hits, hits_on, fate_of, Allows}
+use Rattle.cv_event.specs.Legality.{OfSlot, is_open, is_ready, all_ready, task, shows, is_fresh, is_image, hits, hits_on, on_canvas, is_taken, fate_of, Allows}
 use Rattle.cv_event.proofs.JobLemmas.{at_map}
 use Rattle.cv_event.proofs.DueLemmas.{looks_are_of_live_jobs, composes_are_of_live_jobs}
 use Rattle.cv_event.proofs.PresentLemmas.{all_at, all_change, both_true, not_touched, stored_fresh}
 use Rattle.cv_store.specs.Stores.{StoreParts, project_of, input_in}
 use Rattle.cv_tables.specs.Rows.{Row, job_of, row_in, change_row, row_stands, row_composed, owed, weight, WhileLive, is_missed}
-use Rattle.cv_tables.specs.Rows.{missed_weight, HasSlot,  input_of, painting_of, painting_shown, compose_of, whole_of}
+use Rattle.cv_tables.specs.Rows.{missed_weight, HasSlot, IsPaintingOf, input_of, input_at, painting_of, painting_shown, compose_of, whole_of}
 use Rattle.cv_tables.specs.Tabs.{Tab, Tables, canvas_of, cached_of, cache_of, tab_served, tab_stored, state_of, TabServes, TabLooked}
 use Rattle.cv_desk.specs.Desks.{History, state, IsPresent, IsFresh, AreFresh, IsCurrent, IsWhole, Holds, IsDesk, Notes}
-use Rattle.cv_desk.proofs.KeepingLemmas.{noted, rows_change, stands_whole, owed_in, row_of, slot_in_state, missed_change, stands_fresh, stand_holds}
+use Rattle.cv_desk.proofs.KeepingLemmas.{noted, rows_change, stands_whole, owed_in, row_of, slot_of, slot_in_state, missed_change, stands_fresh, stand_holds}
 use Rattle.cv_desk.proofs.PaintedLemmas.{IsPainted, painted, slot_fresh, painted_present, stored_kept, served_kept, served_painting}
 use Rattle.cv_desk.proofs.PaintedLemmas.{found_input, found_any, first_is, layers_apart}
 use Rattle.cv_desk.proofs.SeenLemmas.{jobs_stand, jobs_composed, job_seen, canvases_served, canvases_stored}
 
+-- a slot of a job of the tables, from its parts
+pub has_slot : (rows : List Row) (j at : ℕ) (r : Row) (x : Slot) (P : Row → Slot → Type 0) → row_in rows j ≡ Some r
+    → slice_get r.slots at ≡ Some x → P r x → HasSlot rows j at P
+has_slot rows j at r x P there is p =
+    subst (λ (o : Option Row). IsSomeAnd o (λ (row : Row). IsSomeAnd (slice_get row.slots at) (P row))) (sym there)
+    (subst (λ (o : Option Slot). IsSomeAnd o (P r)) (sym is) p)
+
+-- ---- what becomes of a delivery
+
+fated_end : (s : State) (job : Job) (x : Slot) → fate_of s job x ≡ Dropped → is_some job.ended ≡ true
+fated_end s job x fated = by job.ended (on_canvas is_taken s job x) fated
+  where
+    by : (o : Option How) (b : Bool) → (if is_some o then Dropped else if b then Stored else Kept) ≡ Dropped → is_some o ≡ true
+    by None true is = absurd cc
+    by None false is = absurd cc
+    by (Some how) b is = refl
+
+fated_live : (s : State) (job : Job) (x : Slot) (fate : Fate) → (fate ≡ Dropped → ⊥) → fate_of s job x ≡ fate → job.ended ≡ None
+fated_live s job x fate other fated = by job.ended refl fated
+  where
+    by : (o : Option How) → job.ended ≡ o → (if is_some o then Dropped else if on_canvas is_taken s job x then Stored else Kept) ≡ fate
+        → job.ended ≡ None
+    by None ended is = ended
+    by (Some how) ended is = absurd (other (sym is))
+
+-- a fate that is told of a job's slot
+abbrev pub IsFate : History → ℕ → ℕ → Fate → Type 0
+IsFate h j at fate =
+    (row : Row) (x : Slot) → row_in h.tables.rows j ≡ Some row → slice_get row.slots at ≡ Some x
+    → fate ≡ fate_of (state h) (job_of row) x
+
+abbrev pub IsAwaited : ℕ → Painting → Row → Slot → Type 0
+IsAwaited who p row x = (x.standing ≡ Missed who) × (row.ended ≡ None → painting_of row.store row.view x ≡ Some p)
+
+pub dropped_slot : (h : History) (who j at : ℕ) (p : Painting) (fate : Fate) → HasSlot h.tables.rows j at (IsAwaited who p)
+    → IsFate h j at fate → fate ≡ Dropped
+    → HasSlot h.tables.rows j at (λ (row : Row) (x : Slot). (x.standing ≡ Missed who) × (is_some row.ended ≡ true))
+dropped_slot h who j at p fate awaited told is =
+    let q = slot_of h.tables.rows j at (IsAwaited who p) awaited in
+    has_slot h.tables.rows j at q.0 q.1 (λ (row : Row) (x : Slot). (x.standing ≡ Missed who) × (is_some row.ended ≡ true)) q.2 q.3
+    (q.4.0, fated_end (state h) (job_of q.0) q.1 (sym (told q.0 q.1 q.2 q.3) ∙ is))
+
+pub live_slot : (h : History) (who j at : ℕ) (p : Painting) (fate some : Fate) → HasSlot h.tables.rows j at (IsAwaited who p)
+    → IsFate h j at fate → fate ≡ some → (some ≡ Dropped → ⊥)
+    → HasSlot h.tables.rows j at (λ (row : Row) (x : Slot). (x.standing ≡ Missed who) × IsPaintingOf p row x
+    × (fate_of (state h) (job_of row) x ≡ some))
+live_slot h who j at p fate some awaited told is other =
+    let q = slot_of h.tables.rows j at (IsAwaited who p) awaited in
+    let fated : fate_of (state h) (job_of q.0) q.1 ≡ some = sym (told q.0 q.1 q.2 q.3) ∙ is in
+    let live : q.0.ended ≡ None = fated_live (state h) (job_of q.0) q.1 some other fated in
+    has_slot h.tables.rows j at q.0 q.1 (λ (row : Row) (x : Slot). (x.standing ≡ Missed who) × IsPaintingOf p row x
+    × (fate_of (state h) (job_of row) x ≡ some)) q.2 q.3 (q.4.0, (live, q.4.1 live), fated)
+
 -- ---- the slot of a task
 
-pub record DueSlot (rows : List Row) (j at : ℕ) : Type 0 where
-  pub row : Row
-  pub slot : Slot
-  pub row_is : row_in rows j ≡ Some row
-  pub slot_is : slice_get row.slots at ≡ Some slot
-  pub live : row.ended ≡ None
-  pub open_is : is_open slot.standing ≡ true
+-- the slot of a job that is to be looked at: the job has no end, and the slot is open
+abbrev IsDue : Row → Slot → Type 0
+IsDue r slot = (r.ended ≡ None) × (is_open slot.standing ≡ true)
 
-pub due_slot : (h : History) (j at : ℕ) → task (state h) ≡ Some (Look j at) → DueSlot h.tables.rows j at
-due_slot h j at due =
-    let q = row_of h.tables.rows j
-    (λ (job : Job). IsSomeAnd (slice_get job.slots at) (λ (slot : Slot). (job.ended ≡ None) × (is_open slot.standing ≡ true)))
-    (looks_are_of_live_jobs (state h) j at due) in
-    by q.0 (slice_get q.0.slots at) q.1 refl q.2
+due_facts : (h : History) (j at : ℕ) (o : Option Row) → task (state h) ≡ Some (Look j at) → row_in h.tables.rows j ≡ o
+    → IsSomeAnd o (λ (r : Row). IsSomeAnd (slice_get r.slots at) (IsDue r))
+due_facts h j at o due there = by o (subst (λ o. IsSomeAnd o P) seen (looks_are_of_live_jobs (state h) j at due))
   where
-    by : (r : Row) (o : Option Slot) → row_in h.tables.rows j ≡ Some r → slice_get r.slots at ≡ o
-        → IsSomeAnd o (λ (slot : Slot). (r.ended ≡ None) × (is_open slot.standing ≡ true)) → DueSlot h.tables.rows j at
-    by r None there is g = absurd g
-    by r (Some x) there is g = record { row = r; slot = x; row_is = there; slot_is = is; live = g.0; open_is = g.1 }
+    P : Job → Type 0
+    P job = IsSomeAnd (slice_get job.slots at) (λ (slot : Slot). (job.ended ≡ None) × (is_open slot.standing ≡ true))
+
+    seen : job_in (state h).jobs j ≡ option_map job_of o
+    seen = job_seen h.tables.rows j ∙ ap (option_map job_of) there
+
+    by : (o : Option Row) → IsSomeAnd (option_map job_of o) P → IsSomeAnd o (λ (r : Row). IsSomeAnd (slice_get r.slots at) (IsDue r))
+    by None g = absurd g
+    by (Some r) g = g
+
+pub due_row : (h : History) (j at : ℕ) → task (state h) ≡ Some (Look j at) → row_in h.tables.rows j ≡ None → ⊥
+due_row h j at due none = due_facts h j at None due none
+
+pub due_slot : (h : History) (j at : ℕ) (r : Row) → task (state h) ≡ Some (Look j at) → row_in h.tables.rows j ≡ Some r
+    → slice_get r.slots at ≡ None → ⊥
+due_slot h j at r due there none = subst (λ o. IsSomeAnd o (IsDue r)) none (due_facts h j at (Some r) due there)
+
+pub due_open : (h : History) (j at : ℕ) (r : Row) (x : Slot) → task (state h) ≡ Some (Look j at) → row_in h.tables.rows j ≡ Some r
+    → slice_get r.slots at ≡ Some x → (r.ended ≡ None) × (is_open x.standing ≡ true)
+due_open h j at r x due there is = subst (λ o. IsSomeAnd o (IsDue r)) is (due_facts h j at (Some r) due there)
+
+pub due_find : (h : History) (j at : ℕ) (r : Row) → task (state h) ≡ Some (Look j at) → row_in h.tables.rows j ≡ Some r
+    → (x : Slot) × (slice_get r.slots at ≡ Some x) × (r.ended ≡ None) × (is_open x.standing ≡ true)
+due_find h j at r due there = by (slice_get r.slots at) refl
+  where
+    by : (o : Option Slot) → slice_get r.slots at ≡ o
+        → (x : Slot) × (slice_get r.slots at ≡ Some x) × (r.ended ≡ None) × (is_open x.standing ≡ true)
+    by None is = absurd (due_slot h j at r due there is)
+    by (Some x) is = let open = due_open h j at r x due there is in (x, is, open.0, open.1)
+
+-- what is read of its input
+pub slot_input : (r : Row) (x : Slot) (at : ℕ) (o : Option Input) → slice_get r.slots at ≡ Some x → o ≡ input_at r at
+    → is_some o ≡ is_some (slice_get r.slots at) → (i : Input) × (o ≡ Some i) × (input_of r.store x ≡ Some i)
+slot_input r x at None is value there = absurd (false≢true (there ∙ ap is_some is))
+slot_input r x at (Some i) is value there = (i, refl, sym (value ∙ ap (option_and_then (input_of r.store)) is))
 
 -- the slot of a task waits for nobody's delivery
 pub open_weight : (x : Slot) → is_open x.standing ≡ true → missed_weight x ≡ 0
@@ -334,26 +412,30 @@ look_painting h j at r x p stamps kept there is live untouched serves = by (slic
         (all_at (IsCurrent h.tables.store) h.tables.tabs r.canvas tab kept.holds.caches at_is)
         (slot_fresh h.tables h.spare j at r x kept.holds there live is) untouched serves
 
-pub has_slot : (rows : List Row) (j at : ℕ) (r : Row) (x : Slot) (P : Row → Slot → Type 0) → row_in rows j ≡ Some r
-    → slice_get r.slots at ≡ Some x → P r x → HasSlot rows j at P
-has_slot rows j at r x P there is p =
-    subst (λ (o : Option Row). IsSomeAnd o (λ (row : Row). IsSomeAnd (slice_get row.slots at) (P row))) (sym there)
-    (subst (λ (o : Option Slot). IsSomeAnd o (P r)) (sym is) p)
-
 -- ---- a composition
 
-pub record DueJob (rows : List Row) (j : ℕ) : Type 0 where
-  pub row : Row
-  pub row_is : row_in rows j ≡ Some row
-  pub live : row.ended ≡ None
-  pub ready : all_ready row.slots ≡ true
+-- the job whose composition is due has no end, and its slots are all ready
+due_composed : (h : History) (j : ℕ) (o : Option Row) → task (state h) ≡ Some (Compose j) → row_in h.tables.rows j ≡ o
+    → IsSomeAnd o (λ (r : Row). (r.ended ≡ None) × (all_ready r.slots ≡ true) × (r.composer ≡ None))
+due_composed h j o due there = by o (subst (λ o. IsSomeAnd o P) seen (composes_are_of_live_jobs (state h) j due))
+  where
+    P : Job → Type 0
+    P job = (job.ended ≡ None) × (all_ready job.slots ≡ true) × (job.composer ≡ None)
 
-pub due_job : (h : History) (j : ℕ) → task (state h) ≡ Some (Compose j) → DueJob h.tables.rows j
-due_job h j due =
-    let q = row_of h.tables.rows j
-    (λ (job : Job). (job.ended ≡ None) × (all_ready job.slots ≡ true) × (job.composer ≡ None))
-    (composes_are_of_live_jobs (state h) j due) in
-    record { row = q.0; row_is = q.1; live = q.2.0; ready = q.2.1 }
+    seen : job_in (state h).jobs j ≡ option_map job_of o
+    seen = job_seen h.tables.rows j ∙ ap (option_map job_of) there
+
+    by : (o : Option Row) → IsSomeAnd (option_map job_of o) P
+        → IsSomeAnd o (λ (r : Row). (r.ended ≡ None) × (all_ready r.slots ≡ true) × (r.composer ≡ None))
+    by None g = absurd g
+    by (Some r) g = g
+
+pub composed_row : (h : History) (j : ℕ) → task (state h) ≡ Some (Compose j) → row_in h.tables.rows j ≡ None → ⊥
+composed_row h j due none = due_composed h j None due none
+
+pub composed_ready : (h : History) (j : ℕ) (r : Row) → task (state h) ≡ Some (Compose j) → row_in h.tables.rows j ≡ Some r
+    → (r.ended ≡ None) × (all_ready r.slots ≡ true)
+composed_ready h j r due there = let q = due_composed h j (Some r) due there in (q.0, q.1)
 
 all_shown : (store : StoreParts) (view : PixelGrid) (list : List Slot) → all_ready list ≡ true
     → map (painting_shown store view) list ≡ map (painting_of store view) list

@@ -1,7 +1,7 @@
-use Rattle.std.proofs.Common.{◌≡◌, ◌∙◌, ◌≤◌, sym, ap, subst, nat_eq, Some, length, map}
+use Rattle.std.proofs.Common.{◌≡◌, ◌∙◌, ◌≤◌, sym, ap, subst, nat_eq, Some, None, length, map}
 use Rattle.std.specs.List.{IsDistinct}
 use Rattle.cv_cache.specs.Caches.{CacheParts, painted_id, IsKeyedIn}
-use Rattle.cv_cache.proofs.HeldLemmas.{seen_in, length_values, ids_are}
+use Rattle.cv_cache.proofs.HeldLemmas.{seen_in, length_values, ids_are, none_apart}
 use Rattle.cv_cache.proofs.cache.LayerCache.len.Goals as goal
 
 pub returns-in-Some-clause-len : goal.returns-in-Some-clause-len
@@ -21,3 +21,8 @@ returns-in-Some-clause-apart c =
     subst (λ (seen : CacheParts). IsDistinct nat_eq (map painted_id seen.paintings)) was
     (subst (IsDistinct nat_eq) (sym (ids_are c.in-Some.images.entries (subst IsKeyedIn c.in-Some.is c.self.invariant)))
     c.count.ensures.apart)
+
+pub returns-in-None-clause-apart : goal.returns-in-None-clause-apart
+returns-in-None-clause-apart c =
+    let was : seen_in None ≡ c.args.self.now = ap seen_in (sym c.in-None.is) ∙ c.self.view_is in
+    subst (λ (seen : CacheParts). IsDistinct nat_eq (map painted_id seen.paintings)) was none_apart
