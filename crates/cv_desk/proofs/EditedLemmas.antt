@@ -102,18 +102,20 @@ frame_left : (project : Project) (ps : List Painting) → map cached_of ps ≡ f
 frame_left project [] = refl
 frame_left project (p ∷ ps) = ap (λ l. cached_of p ∷ l) (frame_left project ps)
 
+abbrev kept_from : StoreParts → ℕ → List Painting → List Cached
+kept_from s layer ps = filter (leaves (project_of s) (Some layer)) (map cached_of ps)
+
 layer_left : (s : StoreParts) (layer : ℕ) (ps : List Painting) → AllByRecursion (IsPresent s) ps
-    → map cached_of (independent layer ps) ≡ filter (leaves (project_of s) (Some layer)) (map cached_of ps)
+    → map cached_of (independent layer ps) ≡ kept_from s layer ps
 layer_left s layer [] h = refl
 layer_left s layer (p ∷ ps) h =
     by (depends_on layer p) (layer_left s layer ps h.1)
-    ∙ ap (λ ids. cond (not (list_any (nat_eq layer) ids)) (cached_of p ∷ kept) kept) (sym (deps_told s (painted_id p) p.input h.0))
+    ∙ ap (λ ids. cond (not (list_any (nat_eq layer) ids)) (cached_of p ∷ kept_from s layer ps) (kept_from s layer ps))
+    (sym (deps_told s (painted_id p) p.input h.0))
   where
-    abbrev kept : List Cached
-    kept = filter (leaves (project_of s) (Some layer)) (map cached_of ps)
-
-    by : (b : Bool) → map cached_of (independent layer ps) ≡ kept
-        → map cached_of (cond (not b) (p ∷ independent layer ps) (independent layer ps)) ≡ cond (not b) (cached_of p ∷ kept) kept
+    by : (b : Bool) → map cached_of (independent layer ps) ≡ kept_from s layer ps
+        → map cached_of (cond (not b) (p ∷ independent layer ps) (independent layer ps))
+        ≡ cond (not b) (cached_of p ∷ kept_from s layer ps) (kept_from s layer ps)
     by true rest = rest
     by false rest = ap (λ l. cached_of p ∷ l) rest
 

@@ -29,7 +29,7 @@ use Rattle.cv_tables.proofs.RowLemmas.{ended_live}
 use Rattle.cv_desk.specs.Desks.{History, state, IsFresh, AreFresh, IsWhole, IsCurrent, Holds, IsDesk, Notes}
 use Rattle.cv_desk.proofs.SeenLemmas.{jobs_ended, jobs_started, jobs_stand, job_seen, canvases_viewed, canvases_published}
 
-legal_more : (s : State) (journal : List Entry) (e : Entry) → LegalFrom s journal → Allows (fold after s journal) e.caller e.act
+pub legal_more : (s : State) (journal : List Entry) (e : Entry) → LegalFrom s journal → Allows (fold after s journal) e.caller e.act
     → LegalFrom s (journal ++ e ∷ [])
 legal_more s [] e legal allowed = (allowed, tt)
 legal_more s (x ∷ journal) e legal allowed = (legal.0, legal_more (after s x) journal e legal.1 allowed)
@@ -123,9 +123,10 @@ ended_noted h how a who j left rows journal kept live made longer room allowed d
     let seen : did (state h) who a ≡ state_of (record h.tables { rows = rows }) =
     does ∙ ap (λ jobs. record (state h) { jobs = jobs }) (sym (jobs_ended how h.tables.rows j) ∙ ap (map job_of) (sym made)) in
     let holds = subst (λ l. Holds (record h.tables { rows = l }) left) (sym made)
-    (end_holds h.tables h.spare left how j q.0 q.1 q.2 room kept.holds) in
-    (kept_more h journal who a (record h.tables { rows = rows }) left kept longer allowed seen holds,
-    record { opening = refl; journal = longer; becomes = sym seen; allowed = allowed })
+    (end_holds h.tables h.spare left how j q.0 q.1 q.2 room kept.holds) in (
+      kept_more h journal who a (record h.tables { rows = rows }) left kept longer allowed seen holds,
+      record { opening = refl; journal = longer; becomes = sym seen; allowed = allowed },
+    )
 
 -- ---- any entry
 
@@ -135,9 +136,10 @@ pub noted : (h : History) (a : Act) (who left : ℕ) (u : Tables) (journal : Lis
     → Holds u left
     → let new : History = record { opening = h.opening; journal = journal; spare = left; tables = u } in
     IsDesk new × Notes h new who a
-noted h a who left u journal kept longer allowed seen holds =
-    (kept_more h journal who a u left kept longer allowed seen holds,
-    record { opening = refl; journal = longer; becomes = sym seen; allowed = allowed })
+noted h a who left u journal kept longer allowed seen holds = (
+  kept_more h journal who a u left kept longer allowed seen holds,
+  record { opening = refl; journal = longer; becomes = sym seen; allowed = allowed },
+)
 
 -- an entry that changes nothing
 pub same_holds : (t : Tables) (spare left : ℕ) → spare ≤ left + 1 → owed t.rows + 1 ≤ spare → Holds t spare → Holds t left

@@ -2,6 +2,8 @@
 pub mod SeenLemmas
 pub mod KeepingLemmas
 pub mod EditedLemmas
-pub mod OpeningLemmas
 pub mod PaintedLemmas
 pub mod TaskLemmas
+pub mod OpeningLemmas
+pub mod PictureLemmas
+pub mod LawLemmas

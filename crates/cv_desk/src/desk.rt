@@ -12,6 +12,7 @@ ghost use Rattle.cv_event.specs.States.{Canvas, job_in, view_on};
 ghost use Rattle.cv_event.specs.Legality.{OfJob, ready_bits, shows, fate_of};
 ghost use Rattle.cv_tables.specs.Rows.{Row, HasSlot, IsPaintingOf, job_of, owed, row_in, whole_of};
 ghost use Rattle.cv_desk.specs.Desks.{state, Notes, Stays};
+ghost use Rattle.cv_desk.specs.Laws.{IsKnown};
 ghost use Rattle.cv_desk.specs.Answers.{StartAnswer, ViewAnswer, FitsCanvas, EndAnswer};
 
 use crate::errors::{EndError, SetViewError, StartError, UnknownJob};
@@ -207,7 +208,12 @@ impl Desk {
     }
 
     /// Starts a job, where there is a number and places are set aside.
-    pub(crate) fn note_start(&mut self, who: u32, canvas: u32, view: View) -> Result<u32, StartError>
+    pub(crate) fn note_start(
+        &mut self,
+        who: u32,
+        canvas: u32,
+        view: View,
+    ) -> Result<u32, StartError>
         requires room { owed self.old.tables.rows + 2 ≤ self.old.spare }
         requires view { view_on (state self.old) canvas ≡ Some view }
         requires few { length self.old.tables.rows < 4294967295 }
@@ -256,6 +262,12 @@ impl Desk {
     {
         &self.journal
     }
+
+    /// What holds of a desk, whatever was called before: its journal is legal, and each cached layer, slot and
+    /// published picture is what the definitions name. It does nothing.
+    pub fn known(&self)
+        ensures { IsKnown self.now }
+    {}
 
     /// The journal alone. Takes no memory.
     pub fn into_journal(self) -> Journal

@@ -2,13 +2,14 @@
 //!
 //! Contract: a `Desk` is its opening, its journal and its tables; the journal is legal, the tables are those of
 //! the state after it, and each call puts exactly its own entry behind it or none. Definitions: `Desks`,
-//! `Answers`, in this order. `edit`, `set_view`, `start`, `preview`, `published`, a hit, a miss and a stored
+//! `Answers`, `Laws`, in this order. `edit`, `set_view`, `start`, `preview`, `published`, a hit, a miss and a stored
 //! delivery take memory; no handle is needed.
 #![tactic(auto)]
 
 mod desk;
 mod edits;
 mod errors;
+pub mod laws;
 mod looks;
 mod opening;
 mod tasks;

@@ -2,6 +2,8 @@
 
 ghost use Rattle.std.specs.Prelude.{◌≡◌, [], IfOk, IfErr};
 ghost use Rattle.cv_store.specs.Stores.{project_of};
+ghost use Rattle.cv_event.specs.States.{begin};
+ghost use Rattle.cv_desk.specs.Desks.{state};
 
 use crate::desk::Desk;
 use cv_event::Journal;
@@ -22,7 +24,8 @@ impl Desk {
     ) -> Result<Desk, (Store, NoMemory)>
         requires { store.version ≡ 1 }
         ensures ok { IfOk result (λ made. (made.journal ≡ [])
-            × (made.opening ≡ record { project = project_of store; canvases = canvases.now })) }
+            × (made.opening ≡ record { project = project_of store; canvases = canvases.now })
+            × (state made ≡ begin made.opening)) }
         ensures back { IfErr result (λ e. e.0 ≡ store) }
     {
         let canvases = match CanvasTable::open(alloc, canvases) {
