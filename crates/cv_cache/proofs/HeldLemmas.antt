@@ -1,6 +1,6 @@
 -- The entries of a cache by their keys, and its paintings by their layers.
 use Rattle.std.proofs.Common.{◌≡◌, ◌∙◌, sym, ap, refl, subst, ℕ, zero, suc, ◌-◌, ◌<◌, ◌≤◌, ◌==◌, nat_eq, Bool, true}
-use Rattle.std.proofs.Common.{false, not, cond, List, [], ◌∷◌, ◌++◌, length, map, find, take, Option, Some, None}
+use Rattle.std.proofs.Common.{false, not, cond, List, [], ◌∷◌, ◌++◌, length, find, take, Option, Some, None}
 use Rattle.std.proofs.Common.{option_map, option_to_list, arith, if◌then◌else◌, take_all, Result, Ok, Err, IfOk, OnOk, OnErr}
 use Rattle.std.proofs.Common.{IfSome, IsSomeAnd, MatchOption}
 use Rattle.std.specs.List.{AllByRecursion, IsDistinct}
@@ -50,11 +50,6 @@ looked_up layer (e ∷ es) = by (nat_eq layer e.0) (looked_up layer es)
 
 pub found_is : (layer : ℕ) (es : Entries) → IsKeyed es → find (is_of layer) (values_of es) ≡ lookup (nat_eq layer) es
 found_is layer es keyed = found layer es keyed ∙ sym (looked_up layer es)
-
--- the layers of the paintings are the keys
-pub ids_are : (es : Entries) → IsKeyed es → map painted_id (values_of es) ≡ keys_of es
-ids_are [] keyed = refl
-ids_are (e ∷ es) keyed = λ i. sym keyed.0 i ∷ ids_are es keyed.1 i
 
 -- an entry that is taken out
 pub removed : (layer : ℕ) (es : Entries) → IsKeyed es → values_of (remove_entry (nat_eq layer) es) ≡ drop_first (is_of layer)
@@ -151,7 +146,7 @@ keyed_taken zero es keyed = tt
 keyed_taken (suc n) [] keyed = tt
 keyed_taken (suc n) (e ∷ es) keyed = (keyed.0, keyed_taken n es keyed.1)
 
-pub length_values : (es : Entries) → length (values_of es) ≡ length es
+length_values : (es : Entries) → length (values_of es) ≡ length es
 length_values [] = refl
 length_values (e ∷ es) = ap suc (length_values es)
 
@@ -270,11 +265,6 @@ dependent_removed layer (x ∷ es) e apart h = by (depends layer x) refl h (depe
               ∙ sym (ap (λ b. if not b then x.1 ∷ independent layer (values_of es) else independent layer (values_of es)) is),
           ap (λ b. suc (length (cond b es (x ∷ remove_entry (nat_eq e.0) es)))) key ∙ ap suc rest.1,
         )
-
--- no layers differ
-pub none_apart : IsDistinct nat_eq (map painted_id [])
-unfolding IsDistinct
-none_apart = tt
 
 -- ---- what a look makes of a cache that is there
 

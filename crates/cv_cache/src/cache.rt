@@ -1,8 +1,7 @@
 //! The cache of a canvas.
 
-ghost use Rattle.std.specs.Prelude.{◌≡◌, ◌≤◌, nat_eq, [], length, map, OnOk, OnErr, IfOk, IfErr};
-ghost use Rattle.std.specs.List.{IsDistinct};
-ghost use Rattle.cv_cache.specs.Caches.{CacheParts, Looked, Serves, painted_id, put_front, independent};
+ghost use Rattle.std.specs.Prelude.{◌≡◌, [], OnOk, OnErr, IfOk, IfErr};
+ghost use Rattle.cv_cache.specs.Caches.{CacheParts, Looked, Serves, put_front, independent};
 ghost use Rattle.cv_model.specs.Paintings.{Painting};
 ghost use Rattle.cv_layer.specs.Stamps.{stamp_list};
 
@@ -45,18 +44,6 @@ impl LayerCache {
                 })
             }
             None => Ok(LayerCache { images: None }),
-        }
-    }
-
-    /// How many images there are. They are of different layers, and no more than the capacity.
-    pub fn len(&self) -> u64
-        ensures len { result ≡ length self.now.paintings }
-        ensures few { length self.now.paintings ≤ self.now.capacity }
-        ensures apart { IsDistinct nat_eq (map painted_id self.now.paintings) }
-    {
-        match &self.images {
-            Some(images) => held::count(images),
-            None => 0,
         }
     }
 

@@ -18,15 +18,6 @@ use std::alloc::AllocError;
 
 pub(crate) type Images = LruCache<u32, Shared<PaintedLayer>>;
 
-/// How many images there are.
-pub(crate) fn count(images: &Images) -> u64
-    ensures len { result ≡ length images.now.entries }
-    ensures few { length images.now.entries ≤ images.now.cap }
-    ensures apart { IsDistinct nat_eq (keys_of images.now.entries) }
-{
-    images.len() as u64
-}
-
 /// A look for the image of a layer.
 pub(crate) fn get(
     images: &mut Images,

@@ -76,23 +76,6 @@ input_seen row o held at is live none =
     let all = subst (λ o. IsSomeAnd o (HoldsAll row)) is (subst (λ e. WhileLive e (IsSomeAnd o (HoldsAll row))) none live) in
     input_held (input_of row.store) held.inputs row.slots at all.inputs
 
--- each slot has one
-held_there : (g : Slot → Option Input) (inputs : List Input) (list : List Slot) (at : ℕ) → map Some inputs ≡ map g list
-    → is_some (slice_get inputs at) ≡ is_some (slice_get list at)
-held_there g [] [] at same = refl
-held_there g [] (slot ∷ list) at same = absurd cc
-held_there g (i ∷ inputs) [] at same = absurd cc
-held_there g (i ∷ inputs) (slot ∷ list) zero same = refl
-held_there g (i ∷ inputs) (slot ∷ list) (suc at) same =
-    let rest : map Some inputs ≡ map g list = cc in held_there g inputs list at rest
-
-pub input_there : (row : Row) (o : Option HoldingParts) (held : HoldingParts) (at : ℕ) → o ≡ Some held
-    → WhileLive row.ended (IsSomeAnd o (HoldsAll row)) → row.ended ≡ None
-    → is_some (slice_get held.inputs at) ≡ is_some (slice_get row.slots at)
-input_there row o held at is live none =
-    let all = subst (λ o. IsSomeAnd o (HoldsAll row)) is (subst (λ e. WhileLive e (IsSomeAnd o (HoldsAll row))) none live) in
-    held_there (input_of row.store) held.inputs row.slots at all.inputs
-
 -- ---- a change of standing
 
 abbrev pub HoldsFor : Row → Option HoldingParts → Type 0

@@ -1,6 +1,6 @@
 -- Canvases by number, and what a look finds.
 use Rattle.std.proofs.Common.{◌≡◌, sym, subst, ℕ, ◌<◌, ◌≤◌, List, length, Result, Ok, Err}
-use Rattle.std.proofs.Common.{Option, Some, None, slice_index_or, slice_set, IfOk, OnOk, OnErr, IsSomeAnd}
+use Rattle.std.proofs.Common.{Option, Some, None, slice_index_or, slice_set, IfOk, OnOk, IsSomeAnd}
 use Rattle.cv_model.specs.Paintings.{Painting, Stamp}
 use Rattle.cv_model.specs.Views.{PixelGrid}
 use Rattle.cv_cache.specs.Caches.{Serves}
@@ -35,16 +35,4 @@ looked_on tabs c tab new layer stamps view (Ok None) h at looked = (
 looked_on tabs c tab new layer stamps view (Ok (Some p)) h at looked = (
   subst (λ o. IsSomeAnd o (λ (t : Tab). Serves (cache_of t) layer stamps view p)) (sym (got tabs c tab h at)) looked.0,
   changed (tab_served layer) tabs c tab new at looked.1,
-)
-
--- and so is one that got no memory
-pub failed_on : {R E : Type 0} (r : Result R E) (tabs : List Tab) (c : ℕ) (tab new : Tab) (layer : ℕ) (stamps : List Stamp)
-    (view : PixelGrid) → c < length tabs → tab ≡ slice_index_or tabs c tab
-    → OnErr r ((new ≡ tab) × (p : Painting) × Serves (cache_of tab) layer stamps view p)
-    → OnErr r ((slice_set tabs c new ≡ tabs) × (p : Painting) × TabServes tabs c layer stamps view p)
-failed_on (Ok o) tabs c tab new layer stamps view h at failed = tt
-failed_on (Err e) tabs c tab new layer stamps view h at failed = (
-  same_set tabs c tab new at failed.0,
-  failed.1,
-  subst (λ o. IsSomeAnd o (λ (t : Tab). Serves (cache_of t) layer stamps view failed.1)) (sym (got tabs c tab h at)) failed.2,
 )

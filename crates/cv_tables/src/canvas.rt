@@ -5,9 +5,7 @@ ghost use Rattle.std.specs.Option.{option_copied, option_map_or};
 ghost use Rattle.cv_event.specs.Legality.{is_view};
 ghost use Rattle.cv_layer.specs.Stamps.{stamp_list};
 ghost use Rattle.cv_tables.specs.Rows.{whole_of};
-ghost use Rattle.cv_cache.specs.Caches.{Serves};
-ghost use Rattle.cv_model.specs.Paintings.{Painting};
-ghost use Rattle.cv_tables.specs.Tabs.{cache_of, new_tab, tab_viewed, tab_edited, tab_served};
+ghost use Rattle.cv_tables.specs.Tabs.{new_tab, tab_viewed, tab_edited, tab_served};
 ghost use Rattle.cv_tables.specs.Tabs.{tab_stored, tab_publishes, TabLook};
 
 use crate::named::touched;
@@ -145,8 +143,7 @@ impl CanvasRow {
     ) -> Result<Option<Shared<PaintedLayer>>, NoMemory>
         ensures ok { IfOk result
             (λ found. TabLook self.old self.new layer (stamp_list stamps.now) view.now found) }
-        ensures err { OnErr result ((self.new ≡ self.old)
-            × (p : Painting) × Serves (cache_of self.old) layer (stamp_list stamps.now) view.now p) }
+        ensures err { OnErr result (self.new ≡ self.old) }
     {
         self.cache.get(layer, stamps, view)
     }

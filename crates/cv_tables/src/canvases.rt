@@ -5,9 +5,7 @@ ghost use Rattle.std.specs.Option.{option_copied};
 ghost use Rattle.cv_event.specs.States.{change_at};
 ghost use Rattle.cv_layer.specs.Stamps.{stamp_list};
 ghost use Rattle.cv_tables.specs.Rows.{whole_of};
-ghost use Rattle.cv_model.specs.Paintings.{Painting};
 ghost use Rattle.cv_tables.specs.Tabs.{new_tab, tab_viewed, tab_edited, tab_stored, tab_publishes, TabLooked};
-ghost use Rattle.cv_tables.specs.Tabs.{TabServes};
 
 use crate::canvas::CanvasRow;
 use crate::row::JobRow;
@@ -72,8 +70,7 @@ impl CanvasTable {
         view: &View,
     ) -> Result<Option<Shared<PaintedLayer>>, NoMemory>
         ensures ok { IfOk result (TabLooked self.old self.new canvas layer (stamp_list stamps.now) view.now) }
-        ensures err { OnErr result ((self.new ≡ self.old)
-            × (p : Painting) × TabServes self.old canvas layer (stamp_list stamps.now) view.now p) }
+        ensures err { OnErr result (self.new ≡ self.old) }
     {
         if (canvas as usize) < self.rows.len() {
             self.rows[canvas as usize].look(layer, stamps, view)

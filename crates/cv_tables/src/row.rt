@@ -1,7 +1,6 @@
 //! A job.
 
-ghost use Rattle.std.specs.Prelude.{◌≡◌, ◌≤◌, length, slice_get, map, IfOk, Some, None, is_some, IsSomeAnd};
-ghost use Rattle.std.specs.Prelude.{false};
+ghost use Rattle.std.specs.Prelude.{◌≡◌, ◌≤◌, length, slice_get, map, IfOk, Some, None, IsSomeAnd, false};
 ghost use Rattle.std.specs.Option.{option_copied};
 ghost use Rattle.cv_event.specs.declared.entry.How.{How};
 ghost use Rattle.cv_event.specs.declared.slot.Standing.TheVariants.{Ready};
@@ -176,11 +175,9 @@ impl JobRow {
         self.slots.get(at as usize).copied()
     }
 
-    /// What a slot of a job without end is painted from. It was taken at the job's start, and each slot has it.
+    /// What a slot of a job without end is painted from. It was taken at the job's start.
     pub fn input(&self, at: u32) -> Option<&Shared<LayerInput>>
-        ensures value { self.now.ended ≡ None → option_copied result ≡ input_at self.now at }
-        ensures there { self.now.ended ≡ None
-            → is_some (option_copied result) ≡ is_some (slice_get self.now.slots at) }
+        ensures { self.now.ended ≡ None → option_copied result ≡ input_at self.now at }
     {
         match &self.held {
             Some(held) => held.input(at as usize),

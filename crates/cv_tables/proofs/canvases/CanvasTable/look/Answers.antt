@@ -1,8 +1,7 @@
-use Rattle.std.proofs.Common.{◌∙◌, subst, refl, slice_set, IfOk, OnErr, ◌≡◌}
-use Rattle.cv_model.specs.Paintings.{Painting}
+use Rattle.std.proofs.Common.{◌∙◌, subst, refl, slice_set, IfOk}
 use Rattle.cv_layer.specs.Stamps.{stamp_list}
-use Rattle.cv_tables.specs.Tabs.{TabLooked, TabServes}
-use Rattle.cv_tables.proofs.TabLemmas.{far, near, looked_on, failed_on, none_past}
+use Rattle.cv_tables.specs.Tabs.{TabLooked}
+use Rattle.cv_tables.proofs.TabLemmas.{far, near, looked_on, none_past}
 use Rattle.cv_tables.proofs.canvases.CanvasTable.look.Goals as goal
 
 pub returns-then-canvas-len-clause-ok : goal.returns-then-canvas-len-clause-ok
@@ -21,12 +20,3 @@ returns-else-canvas-len-clause-ok c = (
       (c.len.ensures ∙ c.self.inside.rows.ok.0) c.if-canvas-len.false),
   refl,
 )
-
-pub returns-then-canvas-len-clause-err : goal.returns-then-canvas-len-clause-err
-returns-then-canvas-len-clause-err c =
-    subst (λ was. OnErr c.look.result ((slice_set c.self.inside.rows.items c.args.canvas c.look.new.self ≡ was)
-    × (p : Painting) × TabServes was c.args.canvas c.args.layer (stamp_list c.args.stamps.now) c.args.view.now p)) c.self.view_is
-    (failed_on c.look.result c.self.inside.rows.items c.args.canvas c.index_mut.result.now c.look.new.self c.args.layer
-    (stamp_list c.args.stamps.now) c.args.view.now
-    (near c.self.inside.rows.items c.len.result c.args.canvas (c.len.ensures ∙ c.self.inside.rows.ok.0) c.if-canvas-len.true)
-    c.index_mut.ensures.value c.look.ensures.err)
