@@ -1,9 +1,10 @@
 -- What comes of a task: of a look that hits or misses, of a delivery that a cache takes, and of a composition.
 use Rattle.std.proofs.Common.{◌≡◌, ◌∙◌, sym, ap, refl, subst, ℕ, zero, suc, ◌+◌, ◌≤◌, Bool, true, false, not, ◌&&◌, List, [], ◌∷◌, ◌++◌}
-use Rattle.std.proofs.Common.{map, Option, Some, None, slice_get, option_map, option_and_then, IsSomeAnd, is_some, arith, if◌then◌else◌, ◌==◌}
+use Rattle.std.proofs.Common.{map, fold, Option, Some, None, slice_get, option_map, option_and_then, IsSomeAnd, is_some, arith, if◌then◌else◌, ◌==◌}
 use Rattle.std.specs.List.{AllByRecursion, list_any, list_all}
 use Rattle.std.specs.Option.{option_map_or}
 use Rattle.std.proofs.lemmas.Bool.{false≢true}
+use Rattle.cv_model.specs.Layers.{Parts, parts}
 use Rattle.cv_model.specs.Paintings.{Input, Painting, Composition, Stamp, frame_of}
 use Rattle.cv_model.specs.Views.{PixelGrid}
 use Rattle.cv_cache.specs.Caches.{painted_id, Serves}
@@ -16,13 +17,14 @@ use Rattle.cv_event.specs.declared.slot.Slot.{Slot}
 use Rattle.cv_event.specs.declared.slot.Standing.{Standing}
 use Rattle.cv_event.specs.declared.slot.Standing.TheVariants.{Open, Missed, Ready, Lost}
 use Rattle.cv_event.specs.declared.slot.Task.TheVariants.{Look, Compose}
-use Rattle.cv_event.specs.States.{Job, Cached, Canvas, State, change_at, change_job, job_in, did, slot_stands, stands_at, composed_by}
+use Rattle.cv_event.specs.States.{Job, Cached, Canvas, State, after, begin, change_at, change_job, job_in, did, slot_stands, stands_at, composed_by}
 use Rattle.cv_event.specs.States.{with_cache, served, stored, image_of_slot, change_cache, canvases_delivered, canvases_looked}
 use Rattle.cv_event.specs.Legality.{OfSlot, is_open, is_ready, all_ready, task, shows, is_fresh, is_image, hits, hits_on, on_canvas, is_taken, fate_of, Allows}
 use Rattle.cv_event.proofs.JobLemmas.{at_map}
+use Rattle.cv_event.proofs.PaintedLemmas.{IsShownJob, shown_one}
 use Rattle.cv_event.proofs.DueLemmas.{looks_are_of_live_jobs, composes_are_of_live_jobs}
-use Rattle.cv_event.proofs.PresentLemmas.{all_at, all_change, both_true, not_touched, stored_fresh}
-use Rattle.cv_store.specs.Stores.{StoreParts, project_of, input_in}
+use Rattle.cv_event.proofs.PresentLemmas.{job_of as job_kept, all_at, all_change, both_true, not_touched, stored_fresh}
+use Rattle.cv_store.specs.Stores.{StoreParts, project_of, input_in, input_from}
 use Rattle.cv_tables.specs.Rows.{Row, job_of, row_in, change_row, row_stands, row_composed, owed, weight, WhileLive, is_missed}
 use Rattle.cv_tables.specs.Rows.{missed_weight, HasSlot, IsPaintingOf, input_of, input_at, painting_of, painting_shown, compose_of, whole_of}
 use Rattle.cv_tables.specs.Tabs.{Tab, Tables, canvas_of, cached_of, cache_of, tab_served, tab_stored, state_of, TabServes, TabLooked}
@@ -125,11 +127,27 @@ due_find h j at r due there = by (slice_get r.slots at) refl
     by None is = absurd (due_slot h j at r due there is)
     by (Some x) is = let open = due_open h j at r x due there is in (x, is, open.0, open.1)
 
--- what is read of its input
-pub slot_input : (r : Row) (x : Slot) (at : ℕ) (o : Option Input) → slice_get r.slots at ≡ Some x → o ≡ input_at r at
-    → is_some o ≡ is_some (slice_get r.slots at) → (i : Input) × (o ≡ Some i) × (input_of r.store x ≡ Some i)
-slot_input r x at None is value there = absurd (false≢true (there ∙ ap is_some is))
-slot_input r x at (Some i) is value there = (i, refl, sym (value ∙ ap (option_and_then (input_of r.store)) is))
+-- each slot has an input
+shown_more : (s : State) (rest : List Entry) → AllByRecursion IsShownJob s.jobs → AllByRecursion IsShownJob (fold after s rest).jobs
+shown_more s [] h = h
+shown_more s (entry ∷ rest) h = shown_more (after s entry) rest (shown_one s entry.caller entry.act h)
+
+some_input : (store : StoreParts) (o : Option Parts) → is_some o ≡ true → (i : Input) × (option_map (input_from store) o ≡ Some i)
+some_input store None h = absurd (false≢true h)
+some_input store (Some p) h = (input_from store p, refl)
+
+pub slot_input : (h : History) (j at : ℕ) (r : Row) (x : Slot) → IsDesk h → row_in h.tables.rows j ≡ Some r
+    → slice_get r.slots at ≡ Some x → (i : Input) × (input_of r.store x ≡ Some i)
+slot_input h j at r x kept there is =
+    let all = subst (λ (s : State). AllByRecursion IsShownJob s.jobs) kept.shows (shown_more (begin h.opening) h.journal tt) in
+    let shown = job_kept IsShownJob (state h).jobs j (job_of r) all (job_seen h.tables.rows j ∙ ap (option_map job_of) there) in
+    some_input r.store (parts (project_of r.store) x.layer)
+    (all_at (λ (slot : Slot). is_some (parts (project_of r.store) slot.layer) ≡ true) r.slots at x shown is)
+
+-- and it is what is read
+pub input_read : (r : Row) (x : Slot) (at : ℕ) (o : Option Input) → slice_get r.slots at ≡ Some x → o ≡ input_at r at
+    → o ≡ input_of r.store x
+input_read r x at o is value = value ∙ ap (option_and_then (input_of r.store)) is
 
 -- the slot of a task waits for nobody's delivery
 pub open_weight : (x : Slot) → is_open x.standing ≡ true → missed_weight x ≡ 0
