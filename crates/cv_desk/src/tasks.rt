@@ -112,14 +112,13 @@ impl Desk {
         let Some(input) = row.input(slot) else {
             unreachable!()
         };
-        if at.touched || !self.shows(row.canvas(), row.view()) {
+        let canvas = row.canvas();
+        let view = row.view();
+        let stamps = input.value().stamps();
+        if at.touched || !self.shows(canvas, view) {
             return Ok(false);
         }
-        let stamps = input.value().stamps();
-        match self
-            .canvases
-            .look(row.canvas(), at.layer, &stamps, &row.view())?
-        {
+        match self.canvases.look(canvas, at.layer, &stamps, &view)? {
             Some(painted) => {
                 self.jobs.ready(job, slot, painted);
                 self.journal.push(Entry {
