@@ -3,6 +3,8 @@ pub mod BasisLemmas
 pub mod SeenLemmas
 pub mod KeepingLemmas
 pub mod EditedLemmas
+pub mod PaintedLemmas
+pub mod TaskLemmas
 pub mod OpeningLemmas
 pub mod PictureLemmas
 pub mod LawLemmas
