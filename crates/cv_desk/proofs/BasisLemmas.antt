@@ -1,10 +1,10 @@
 -- What of a job never changes.
 use Rattle.std.proofs.Common.{◌≡◌, ◌∙◌, sym, ap, refl, ℕ, zero, suc, ◌==◌, ◌≤◌, Bool, true, false, List, [], ◌∷◌, ◌++◌, map}
-use Rattle.std.proofs.Common.{Option, Some, None, is_some, slice_get, length, take, take_all, option_map, arith, if◌then◌else◌}
+use Rattle.std.proofs.Common.{Option, Some, None, is_some, slice_get, length, take, take_all, option_map, subst, IsSomeAnd, arith, if◌then◌else◌}
 use Rattle.std.proofs.lemmas.List.{length-map, map-append}
 use Rattle.std.proofs.lemmas.Option.{slice_get-map}
 use Rattle.cv_model.specs.declared.edit.Edit.{Edit}
-use Rattle.cv_model.specs.Paintings.{Painting, frame_of}
+use Rattle.cv_model.specs.Paintings.{Input, Painting, frame_of}
 use Rattle.cv_model.specs.Views.{PixelGrid}
 use Rattle.cv_store.specs.Stores.{StoreParts, project_of, input_in}
 use Rattle.cv_event.specs.declared.entry.How.{How}
@@ -13,7 +13,8 @@ use Rattle.cv_event.specs.declared.slot.Slot.{Slot}
 use Rattle.cv_event.specs.declared.slot.Standing.{Standing}
 use Rattle.cv_event.specs.States.{change_at, slot_stands, slot_edited}
 use Rattle.cv_tables.specs.Rows.{Row, row_in, change_row, row_ended, row_cancelled, row_stands, row_composed, row_edited, slots_edited}
-use Rattle.cv_tables.specs.Rows.{slot_layer, painting_from, painting_of, whole_of}
+use Rattle.cv_tables.specs.Rows.{slot_layer, HasSlot, painting_from, painting_of, whole_of}
+use Rattle.cv_desk.specs.Answers.{IsPiece}
 use Rattle.cv_desk.specs.Desks.{Basis, basis_of, KeepJobs}
 
 -- ---- the same jobs
@@ -134,3 +135,59 @@ basis_stays old new (suc at) r kept there =
         → (q : Row) × (slice_get new at ≡ Some q) × (basis_of q ≡ basis_of r)
     by None is same = absurd cc
     by (Some q) is same = let equal : basis_of q ≡ basis_of r = cc in (q, is, equal)
+
+-- so is a slot of it, of the same layer
+layer_at : (xs ys : List Slot) (at : ℕ) (x : Slot) → map slot_layer ys ≡ map slot_layer xs → slice_get xs at ≡ Some x
+    → (y : Slot) × (slice_get ys at ≡ Some y) × (y.layer ≡ x.layer)
+layer_at [] ys at x same is = absurd cc
+layer_at (x ∷ xs) [] at z same is = absurd cc
+layer_at (x ∷ xs) (y ∷ ys) zero z same is =
+    let first : y.layer ≡ x.layer = cc in
+    let this : x ≡ z = cc in (y, refl, first ∙ ap slot_layer this)
+layer_at (x ∷ xs) (y ∷ ys) (suc at) z same is =
+    let rest : map slot_layer ys ≡ map slot_layer xs = cc in layer_at xs ys at z rest is
+
+pub slot_stays : (q r : Row) (at : ℕ) (x : Slot) → basis_of q ≡ basis_of r → slice_get r.slots at ≡ Some x
+    → (y : Slot) × (slice_get q.slots at ≡ Some y) × (y.layer ≡ x.layer)
+slot_stays q r at x same is = layer_at r.slots q.slots at x (ap (λ (b : Basis). b.layers) same) is
+
+-- so a piece that was handed out is still of the job's own input and view
+pub piece_stays : (old new : List Row) (j at : ℕ) (input : Input) (view : PixelGrid) → KeepJobs old new
+    → HasSlot old j at (IsPiece input view) → HasSlot new j at (IsPiece input view)
+piece_stays old new j at input view kept had = by (row_in old j) refl had
+  where
+    inner : (r : Row) (o : Option Slot) → row_in old j ≡ Some r → slice_get r.slots at ≡ o → IsSomeAnd o (IsPiece input view r)
+        → HasSlot new j at (IsPiece input view)
+    inner r None there is h = absurd h
+    inner r (Some x) there is h =
+        let q = basis_stays old new j r kept there in
+        let y = slot_stays q.0 r at x q.2 is in
+        let store = ap (λ (b : Basis). b.store) q.2 in
+        let input_is : input_in q.0.store y.0.layer ≡ Some input = (λ i. input_in (store i) (y.2 i)) ∙ h.0 in
+        let view_is : view ≡ q.0.view = h.1 ∙ sym (ap (λ (b : Basis). b.view) q.2) in
+        subst (λ (o : Option Row). IsSomeAnd o (λ row. IsSomeAnd (slice_get row.slots at) (IsPiece input view row))) (sym q.1)
+        (subst (λ (o : Option Slot). IsSomeAnd o (IsPiece input view q.0)) (sym y.1) (input_is, view_is))
+
+    by : (o : Option Row) → row_in old j ≡ o → IsSomeAnd o (λ row. IsSomeAnd (slice_get row.slots at) (IsPiece input view row))
+        → HasSlot new j at (IsPiece input view)
+    by None there h = absurd h
+    by (Some r) there h = inner r (slice_get r.slots at) there refl h
+
+-- and what was kept by two calls is kept by both
+longer_front : (zs ys xs : List Basis) → take (length zs) ys ≡ zs → take (length ys) xs ≡ ys → take (length zs) xs ≡ zs
+longer_front [] ys xs h g = refl
+longer_front (z ∷ zs) [] xs h g = absurd cc
+longer_front (z ∷ zs) (y ∷ ys) [] h g = absurd cc
+longer_front (z ∷ zs) (y ∷ ys) (x ∷ xs) h g =
+    let top : y ≡ z = cc in
+    let below : take (length zs) ys ≡ zs = cc in
+    let next : x ≡ y = cc in
+    let rest : take (length ys) xs ≡ ys = cc in
+    λ i. (next ∙ top) i ∷ longer_front zs ys xs below rest i
+
+pub keep_more : (a b c : List Row) → KeepJobs a b → KeepJobs b c → KeepJobs a c
+keep_more a b c first then =
+    ap (λ n. take n (map basis_of c)) (sym (length-map a basis_of))
+    ∙ longer_front (map basis_of a) (map basis_of b) (map basis_of c)
+    (ap (λ n. take n (map basis_of b)) (length-map a basis_of) ∙ first)
+    (ap (λ n. take n (map basis_of c)) (length-map b basis_of) ∙ then)

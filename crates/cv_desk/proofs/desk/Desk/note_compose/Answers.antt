@@ -82,7 +82,8 @@ returns-clause-ok c =
       spare = c.push.new.self.spare;
       tables = record h.tables { rows = c.compose.new.self };
     } in
-    let whole : c.in_ok-input.input ≡ whole_of r = c.in_ok-input.ensures ∙ ready_whole r (composed_ready h c.args.job r due there).1 in
-    (subst (λ n. Notes n new c.args.who (act.Compose c.args.job)) c.self.view_is both.1,
-    subst (λ n. IsSomeAnd (row_in n.tables.rows c.args.job) (λ row. c.in_ok-input.input ≡ whole_of row)) c.self.view_is
-    (subst (λ (o : Option Row). IsSomeAnd o (λ row. c.in_ok-input.input ≡ whole_of row)) (sym there) whole))
+    let whole : c.in_ok-input.input ≡ whole_of r = c.in_ok-input.ensures ∙ ready_whole r (composed_ready h c.args.job r due there).1 in (
+      subst (λ n. Notes n new c.args.who (act.Compose c.args.job)) c.self.view_is both.1,
+      subst (λ n. IsSomeAnd (row_in n.tables.rows c.args.job) (λ row. c.in_ok-input.input ≡ whole_of row)) c.self.view_is
+          (subst (λ (o : Option Row). IsSomeAnd o (λ row. c.in_ok-input.input ≡ whole_of row)) (sym there) whole),
+    )

@@ -114,8 +114,11 @@ returns-clause-ok c =
       tables = record h.tables { rows = c.miss.new.self };
     } in
     let given : input_of r.store q.0 ≡ Some c.in_ok-clone.field-0 =
-    sym read ∙ ap option_copied c.in-Some-input.is ∙ ap Some (sym c.in_ok-clone.ensures.cases) in
-    (refl, refl, subst (λ n. Notes n new c.args.who (act.Look c.args.job c.args.slot false)) c.self.view_is both.1,
-    subst (λ n. HasSlot n.tables.rows c.args.job c.args.slot (IsPiece c.in_ok-clone.field-0 c.view.result)) c.self.view_is
-    (has_slot h.tables.rows c.args.job c.args.slot r q.0 (IsPiece c.in_ok-clone.field-0 c.view.result) there q.1
-    (given, c.view.ensures)))
+    sym read ∙ ap option_copied c.in-Some-input.is ∙ ap Some (sym c.in_ok-clone.ensures.cases) in (
+      refl,
+      refl,
+      subst (λ n. Notes n new c.args.who (act.Look c.args.job c.args.slot false)) c.self.view_is both.1,
+      subst (λ n. HasSlot n.tables.rows c.args.job c.args.slot (IsPiece c.in_ok-clone.field-0 c.view.result)) c.self.view_is
+          (has_slot h.tables.rows c.args.job c.args.slot r q.0 (IsPiece c.in_ok-clone.field-0 c.view.result) there q.1
+          (given, c.view.ensures)),
+    )
