@@ -43,14 +43,6 @@ has_slot rows j at r x P there is p =
 
 -- ---- what becomes of a delivery
 
-fated_end : (s : State) (job : Job) (x : Slot) → fate_of s job x ≡ Dropped → is_some job.ended ≡ true
-fated_end s job x fated = by job.ended (on_canvas is_taken s job x) fated
-  where
-    by : (o : Option How) (b : Bool) → (if is_some o then Dropped else if b then Stored else Kept) ≡ Dropped → is_some o ≡ true
-    by None true is = absurd cc
-    by None false is = absurd cc
-    by (Some how) b is = refl
-
 fated_live : (s : State) (job : Job) (x : Slot) (fate : Fate) → (fate ≡ Dropped → ⊥) → fate_of s job x ≡ fate → job.ended ≡ None
 fated_live s job x fate other fated = by job.ended refl fated
   where
@@ -68,15 +60,7 @@ IsFate h j at fate =
 abbrev pub IsAwaited : ℕ → Painting → Row → Slot → Type 0
 IsAwaited who p row x = (x.standing ≡ Missed who) × (row.ended ≡ None → painting_of row.store row.view x ≡ Some p)
 
-pub dropped_slot : (h : History) (who j at : ℕ) (p : Painting) (fate : Fate) → HasSlot h.tables.rows j at (IsAwaited who p)
-    → IsFate h j at fate → fate ≡ Dropped
-    → HasSlot h.tables.rows j at (λ (row : Row) (x : Slot). (x.standing ≡ Missed who) × (is_some row.ended ≡ true))
-dropped_slot h who j at p fate awaited told is =
-    let q = slot_of h.tables.rows j at (IsAwaited who p) awaited in
-    has_slot h.tables.rows j at q.0 q.1 (λ (row : Row) (x : Slot). (x.standing ≡ Missed who) × (is_some row.ended ≡ true)) q.2 q.3
-    (q.4.0, fated_end (state h) (job_of q.0) q.1 (sym (told q.0 q.1 q.2 q.3) ∙ is))
-
-pub live_slot : (h : History) (who j at : ℕ) (p : Painting) (fate some : Fate) → HasSlot h.tables.rows j at (IsAwaited who p)
+live_slot : (h : History) (who j at : ℕ) (p : Painting) (fate some : Fate) → HasSlot h.tables.rows j at (IsAwaited who p)
     → IsFate h j at fate → fate ≡ some → (some ≡ Dropped → ⊥)
     → HasSlot h.tables.rows j at (λ (row : Row) (x : Slot). (x.standing ≡ Missed who) × IsPaintingOf p row x
     × (fate_of (state h) (job_of row) x ≡ some))
@@ -88,6 +72,24 @@ live_slot h who j at p fate some awaited told is other =
     × (fate_of (state h) (job_of row) x ≡ some)) q.2 q.3 (q.4.0, (live, q.4.1 live), fated)
 
 -- ---- the slot of a task
+
+pub kept_slot : (h : History) (who j at : ℕ) (p : Painting) (fate : Fate) → HasSlot h.tables.rows j at (IsAwaited who p)
+    → IsFate h j at fate → fate ≡ Kept
+    → HasSlot h.tables.rows j at (λ (row : Row) (x : Slot). (x.standing ≡ Missed who) × IsPaintingOf p row x
+    × (fate_of (state h) (job_of row) x ≡ Kept))
+kept_slot h who j at p fate awaited told is = live_slot h who j at p fate Kept awaited told is other
+  where
+    other : Kept ≡ Dropped → ⊥
+    other same = cc
+
+pub stored_slot : (h : History) (who j at : ℕ) (p : Painting) (fate : Fate) → HasSlot h.tables.rows j at (IsAwaited who p)
+    → IsFate h j at fate → fate ≡ Stored
+    → HasSlot h.tables.rows j at (λ (row : Row) (x : Slot). (x.standing ≡ Missed who) × IsPaintingOf p row x
+    × (fate_of (state h) (job_of row) x ≡ Stored))
+stored_slot h who j at p fate awaited told is = live_slot h who j at p fate Stored awaited told is other
+  where
+    other : Stored ≡ Dropped → ⊥
+    other same = cc
 
 -- the slot of a job that is to be looked at: the job has no end, and the slot is open
 abbrev IsDue : Row → Slot → Type 0
@@ -125,7 +127,7 @@ due_find h j at r due there = by (slice_get r.slots at) refl
     by : (o : Option Slot) → slice_get r.slots at ≡ o
         → (x : Slot) × (slice_get r.slots at ≡ Some x) × (r.ended ≡ None) × (is_open x.standing ≡ true)
     by None is = absurd (due_slot h j at r due there is)
-    by (Some x) is = let open = due_open h j at r x due there is in (x, is, open.0, open.1)
+    by (Some x) is = let opened = due_open h j at r x due there is in (x, is, opened.0, opened.1)
 
 -- each slot has an input
 shown_more : (s : State) (rest : List Entry) → AllByRecursion IsShownJob s.jobs → AllByRecursion IsShownJob (fold after s rest).jobs
@@ -153,7 +155,7 @@ input_read r x at o is value = value ∙ ap (option_and_then (input_of r.store))
 pub open_weight : (x : Slot) → is_open x.standing ≡ true → missed_weight x ≡ 0
 open_weight x is = by x.standing is
   where
-    by : (s : Standing) → is_open s ≡ true → (if is_missed s then 1 else 0) ≡ 0
+    by : (s : Standing) → is_open s ≡ true → ◌≡◌ {A = ℕ} (if is_missed s then 1 else 0) 0
     by Open is = refl
     by (Missed who) is = absurd (false≢true is)
     by Ready is = absurd (false≢true is)
@@ -239,10 +241,10 @@ looked_holds : (t : Tables) (spare left owes j at : ℕ) (standing : Standing) (
     → slice_get r.slots at ≡ Some x → is_open x.standing ≡ true → missed_weight (slot_stands standing x) ≡ owes
     → spare ≤ left + 1 → owed t.rows + suc owes ≤ spare → Holds t spare
     → Holds (record t { rows = (change_row j (row_stands at standing) t.rows) }) left
-looked_holds t spare left owes j at standing r x there is open after less room kept =
+looked_holds t spare left owes j at standing r x there is opened after less room kept =
     let sum = owed_in (row_stands at standing) t.rows j r there in
     let one = missed_change (slot_stands standing) r.slots at x is in
-    let before = open_weight x open in record {
+    let before = open_weight x opened in record {
       opened = kept.opened;
       caches = kept.caches;
       slots = rows_change (AreFresh t.store) j (row_stands at standing) t.rows (stands_fresh t.store at standing) kept.slots;
@@ -296,9 +298,9 @@ pub hit_noted : (h : History) (who j at left : ℕ) (tabs : List Tab) (rows : Li
       tables = record h.tables { tabs = tabs; rows = rows };
     } in
     IsDesk new × Notes h new who (act.Look j at true)
-hit_noted h who j at left tabs rows journal r x kept due there is open hit taken made longer less room =
+hit_noted h who j at left tabs rows journal r x kept due there is opened hit taken made longer less room =
     let t = h.tables in
-    let stands = looked_holds t h.spare left 0 j at Ready r x there is open refl less room kept.holds in
+    let stands = looked_holds t h.spare left 0 j at Ready r x there is opened refl less room kept.holds in
     let caches = all_change (IsCurrent t.store) (tab_served x.layer) (served_kept t.store x.layer) t.tabs r.canvas kept.holds.caches in
     let holds : Holds (record t { tabs = tabs; rows = rows }) left = record {
       opened = kept.holds.opened;
@@ -322,10 +324,10 @@ pub miss_noted : (h : History) (who j at left : ℕ) (rows : List Row) (journal 
       tables = record h.tables { rows = rows };
     } in
     IsDesk new × Notes h new who (act.Look j at false)
-miss_noted h who j at left rows journal r x kept due there is open missed made longer less room =
+miss_noted h who j at left rows journal r x kept due there is opened missed made longer less room =
     let t = h.tables in
     let holds = subst (λ l. Holds (record t { rows = l }) left) (sym made)
-    (looked_holds t h.spare left 1 j at (Missed who) r x there is open refl less room kept.holds) in
+    (looked_holds t h.spare left 1 j at (Missed who) r x there is opened refl less room kept.holds) in
     let seen : did (state h) who (act.Look j at false) ≡ state_of (record t { rows = rows }) =
     ap (λ l. record (state h) { jobs = l }) (sym (jobs_stand at (Missed who) t.rows j) ∙ ap (map job_of) (sym made)) in
     noted h (act.Look j at false) who left (record t { rows = rows }) journal kept longer (due, sym missed) seen holds
@@ -389,10 +391,19 @@ look_found h j at r x i kept there is live input hit =
               (q.1, (ap (λ (n : Input). n.stamps) same, q.2));
         }
 
+-- what a look answered, in the job's words
+pub looked_up : (h : History) (r : Row) (x : Slot) (c : ℕ) (stamps : List Stamp) (view : PixelGrid) (new : List Tab)
+    (o q : Option Painting) → c ≡ r.canvas → view ≡ r.view → o ≡ q → TabLooked h.tables.tabs new c x.layer stamps view o
+    → TabLooked h.tables.tabs new r.canvas x.layer stamps r.view q
+looked_up h r x c stamps view new o q canvas_is view_is is looked =
+    subst (λ n. TabLooked h.tables.tabs new n x.layer stamps r.view q) canvas_is
+    (subst (λ v. TabLooked h.tables.tabs new c x.layer stamps v q) view_is
+    (subst (λ k. TabLooked h.tables.tabs new c x.layer stamps view k) is looked))
+
 -- so it misses where the slot is touched, where the view isn't shown, and where nothing is found
 unhit : (b : Bool) → (b ≡ true → ⊥) → b ≡ false
-unhit true no = absurd (no refl)
-unhit false no = refl
+unhit true never = absurd (never refl)
+unhit false never = refl
 
 pub touched_misses : (h : History) (j at : ℕ) (r : Row) (x : Slot) (i : Input) → IsDesk h → row_in h.tables.rows j ≡ Some r
     → slice_get r.slots at ≡ Some x → r.ended ≡ None → input_of r.store x ≡ Some i → x.touched ≡ true
