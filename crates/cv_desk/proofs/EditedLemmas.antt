@@ -21,8 +21,9 @@ use Rattle.cv_event.specs.States.{Cached, State, did, stays, slot_edited, canvas
 use Rattle.cv_event.proofs.PresentLemmas.{all_map}
 use Rattle.cv_tables.specs.Rows.{Row, input_of, slot_layer, WhileLive, slots_edited, row_edited, missed_in, missed_weight, end_weight, weight, owed}
 use Rattle.cv_tables.specs.Tabs.{Tab, Tables, cached_of, canvas_of, left_by, tab_edited, state_of}
-use Rattle.cv_desk.specs.Desks.{History, state, IsPresent, IsWhole, IsCurrent, IsFresh, AreFresh, Holds, IsDesk, Notes, Stays}
+use Rattle.cv_desk.specs.Desks.{History, state, IsPresent, IsWhole, IsCurrent, IsFresh, AreFresh, Holds, IsDesk, Notes, Stays, KeepJobs}
 use Rattle.cv_desk.specs.Answers.{EditAnswer, EditNotes}
+use Rattle.cv_desk.proofs.BasisLemmas.{jobs_edited_kept, edited_layers}
 use Rattle.cv_desk.proofs.KeepingLemmas.{noted}
 use Rattle.cv_desk.proofs.SeenLemmas.{jobs_edited}
 
@@ -178,17 +179,12 @@ owed_edited : (e : Edit) (rows : List Row) → owed (map (row_edited e) rows) �
 owed_edited e [] = refl
 owed_edited e (row ∷ rows) = λ i. weight_edited e row i + owed_edited e rows i
 
--- the layers of the slots stay
-edited_layers : (project : Project) (e : Edit) (list : List Slot) → map slot_layer (map (slot_edited project e) list) ≡ map slot_layer list
-edited_layers project e [] = refl
-edited_layers project e (x ∷ xs) = ap (λ ids. x.layer ∷ ids) (edited_layers project e xs)
-
 edited_whole : (e : Edit) (row : Row) → IsWhole row → IsWhole (row_edited e row)
 edited_whole e row was = by row.ended
   where
     by : (o : Option How) → IsWhole (if is_some o then record row { ended = o }
         else record row { slots = (slots_edited row.store e row.slots); ended = o })
-    by None = record { layers = edited_layers (project_of row.store) e row.slots ∙ was.layers; apart = was.apart }
+    by None = record { layers = edited_layers row.store e row.slots ∙ was.layers; apart = was.apart }
     by (Some how) = record { layers = was.layers; apart = was.apart }
 
 -- ---- the entry
@@ -237,6 +233,7 @@ edit_noted h who left e u journal kept edited in_order tabs rows longer room owe
     noted h (act.Edit e None) who left u journal kept longer (sym in_order)
     (edit_seen h who e u.store edited kept.holds ∙ ap state_of same)
     (subst (λ t. Holds t left) same (edit_holds h.tables u.store e h.spare left edited room owes kept.holds))
+    (subst (KeepJobs h.tables.rows) (sym rows) (jobs_edited_kept e h.tables.rows))
 
 -- ---- a refused edit
 

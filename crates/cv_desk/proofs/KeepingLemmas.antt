@@ -26,7 +26,8 @@ use Rattle.cv_tables.specs.Rows.{row_cancelled, new_row, missed_in, missed_weigh
 use Rattle.cv_tables.specs.Tabs.{Tab, Tables, canvas_of, tab_viewed, tab_publishes, state_of}
 use Rattle.cv_tables.proofs.TableLemmas.{owed_change, owed_more, lighter, weight_within}
 use Rattle.cv_tables.proofs.RowLemmas.{ended_live}
-use Rattle.cv_desk.specs.Desks.{History, state, IsFresh, AreFresh, IsWhole, IsCurrent, Holds, IsDesk, Notes}
+use Rattle.cv_desk.specs.Desks.{History, state, IsFresh, AreFresh, IsWhole, IsCurrent, Holds, IsDesk, Notes, KeepJobs}
+use Rattle.cv_desk.proofs.BasisLemmas.{jobs_ended_kept, jobs_stand_kept, standing_layers}
 use Rattle.cv_desk.proofs.SeenLemmas.{jobs_ended, jobs_started, jobs_stand, job_seen, canvases_viewed, canvases_published}
 
 pub legal_more : (s : State) (journal : List Entry) (e : Entry) → LegalFrom s journal → Allows (fold after s journal) e.caller e.act
@@ -125,7 +126,13 @@ ended_noted h how a who j left rows journal kept live made longer room allowed d
     let holds = subst (λ l. Holds (record h.tables { rows = l }) left) (sym made)
     (end_holds h.tables h.spare left how j q.0 q.1 q.2 room kept.holds) in (
       kept_more h journal who a (record h.tables { rows = rows }) left kept longer allowed seen holds,
-      record { opening = refl; journal = longer; becomes = sym seen; allowed = allowed },
+      record {
+        opening = refl;
+        journal = longer;
+        becomes = sym seen;
+        allowed = allowed;
+        jobs = subst (KeepJobs h.tables.rows) (sym made) (jobs_ended_kept how j h.tables.rows);
+      },
     )
 
 -- ---- any entry
@@ -133,12 +140,12 @@ ended_noted h how a who j left rows journal kept live made longer room allowed d
 -- what comes of an entry with tables of the state behind it
 pub noted : (h : History) (a : Act) (who left : ℕ) (u : Tables) (journal : List Entry) → IsDesk h
     → journal ≡ h.journal ++ record { caller = who; act = a } ∷ [] → Allows (state h) who a → did (state h) who a ≡ state_of u
-    → Holds u left
+    → Holds u left → KeepJobs h.tables.rows u.rows
     → let new : History = record { opening = h.opening; journal = journal; spare = left; tables = u } in
     IsDesk new × Notes h new who a
-noted h a who left u journal kept longer allowed seen holds = (
+noted h a who left u journal kept longer allowed seen holds jobs = (
   kept_more h journal who a u left kept longer allowed seen holds,
-  record { opening = refl; journal = longer; becomes = sym seen; allowed = allowed },
+  record { opening = refl; journal = longer; becomes = sym seen; allowed = allowed; jobs = jobs },
 )
 
 -- an entry that changes nothing
@@ -278,11 +285,6 @@ stands_fresh store at standing row was = by row.ended was
     by None h = all_change (IsFresh store row) (slot_stands standing) (λ x h. h) row.slots at h
     by (Some how) h = tt
 
-standing_layers : (at : ℕ) (standing : Standing) (list : List Slot) → map slot_layer (change_at at (slot_stands standing) list) ≡ map slot_layer list
-standing_layers at standing [] = refl
-standing_layers zero standing (x ∷ xs) = refl
-standing_layers (suc at) standing (x ∷ xs) = ap (λ ids. x.layer ∷ ids) (standing_layers at standing xs)
-
 pub stands_whole : (at : ℕ) (standing : Standing) (row : Row) → IsWhole row → IsWhole (row_stands at standing row)
 stands_whole at standing row was = record { layers = standing_layers at standing row.slots ∙ was.layers; apart = was.apart }
 
@@ -358,6 +360,7 @@ delivered_noted h fate who j at left standing rows journal r x kept there is was
     let seen = does
     ∙ ap (λ l. record (state h) { jobs = l }) (sym (jobs_stand at standing h.tables.rows j) ∙ ap (map job_of) (sym made)) in
     noted h (act.Deliver j at fate) who left (record h.tables { rows = rows }) journal kept longer allowed seen holds
+    (subst (KeepJobs h.tables.rows) (sym made) (jobs_stand_kept at standing j h.tables.rows))
 
 -- ---- a finish
 
@@ -404,6 +407,7 @@ finish_noted h who j left tabs rows journal r kept there composer none published
     (sym (job_seen h.tables.rows j ∙ ap (option_map job_of) there)) (composer, none) in
     noted h (act.Finish j) who left (record h.tables { tabs = tabs; rows = rows }) journal kept longer allowed
     (finish_seen h who j r tabs rows there published made) holds
+    (subst (KeepJobs h.tables.rows) (sym made) (jobs_ended_kept Finished j h.tables.rows))
 
 pub room_for_row : (h : History) (j : ℕ) (r : Row) → IsDesk h → row_in h.tables.rows j ≡ Some r → r.ended ≡ None → 1 ≤ h.spare
 room_for_row h j r kept there none =

@@ -1,4 +1,5 @@
 -- Lemmas on the desk.
+pub mod BasisLemmas
 pub mod SeenLemmas
 pub mod KeepingLemmas
 pub mod EditedLemmas

@@ -38,7 +38,7 @@ opened_at store specs spare first =
       holds = record { opened = omega (arith, first); caches = new_current store specs; slots = tt; shown = tt; room = omega arith };
     }
 
-pub opened_desk : (store : StoreParts) (specs : List CanvasSpec) (tabs : List Tab) (rows : List Row) (journal : List Entry) (spare : ℕ)
+opened_empty : (store : StoreParts) (specs : List CanvasSpec) (tabs : List Tab) (rows : List Row) (journal : List Entry) (spare : ℕ)
     → store.version ≡ 1 → tabs ≡ map new_tab specs → rows ≡ [] → journal ≡ []
     → IsDesk (record {
       opening = record { project = project_of store; canvases = map (λ (tab : Tab). tab.spec) tabs };
@@ -46,7 +46,7 @@ pub opened_desk : (store : StoreParts) (specs : List CanvasSpec) (tabs : List Ta
       spare = spare;
       tables = record { store = store; tabs = tabs; rows = rows };
     })
-opened_desk store specs tabs rows journal spare first made none empty =
+opened_empty store specs tabs rows journal spare first made none empty =
     subst (λ (l : List Tab). IsDesk (record {
       opening = record { project = project_of store; canvases = map (λ (tab : Tab). tab.spec) l };
       journal = journal;
@@ -65,3 +65,27 @@ opened_desk store specs tabs rows journal spare first made none empty =
       spare = spare;
       tables = record { store = store; tabs = map new_tab specs; rows = [] };
     })) (sym empty) (opened_at store specs spare first)))
+
+-- a desk as it is opened, with what is kept of its opening
+pub opened_desk : (store : StoreParts) (specs : List CanvasSpec) (tabs : List Tab) (rows : List Row) (journal : List Entry) (spare : ℕ)
+    (was : StoreParts) (blank : List Tab) → store.version ≡ 1 → tabs ≡ map new_tab specs → rows ≡ [] → journal ≡ [] → was ≡ store
+    → blank ≡ tabs
+    → IsDesk (record {
+      opening = record { project = project_of was; canvases = map (λ (tab : Tab). tab.spec) blank };
+      journal = journal;
+      spare = spare;
+      tables = record { store = store; tabs = tabs; rows = rows };
+    })
+opened_desk store specs tabs rows journal spare was blank first made none empty was_is blank_is =
+    subst (λ (s : StoreParts). IsDesk (record {
+      opening = record { project = project_of s; canvases = map (λ (tab : Tab). tab.spec) blank };
+      journal = journal;
+      spare = spare;
+      tables = record { store = store; tabs = tabs; rows = rows };
+    })) (sym was_is)
+    (subst (λ (l : List Tab). IsDesk (record {
+      opening = record { project = project_of store; canvases = map (λ (tab : Tab). tab.spec) l };
+      journal = journal;
+      spare = spare;
+      tables = record { store = store; tabs = tabs; rows = rows };
+    })) (sym blank_is) (opened_empty store specs tabs rows journal spare first made none empty))

@@ -96,12 +96,15 @@ places_shown store view there k [] [] same found each = tt
 places_shown store view there k [] (x ∷ xs) same found each = absurd cc
 places_shown store view there k (l ∷ ls) [] same found each = absurd cc
 places_shown store view there k (l ∷ ls) (x ∷ xs) same found each = (
-  subst (λ b. IsPlaceOf (project_of store) view l b (painting_shown store view x)) (sym (each zero x refl))
+  subst (λ b. IsPlaceOf (project_of store) view l b (painting_shown store view x)) (sym (ap there (none k) ∙ each zero x refl))
       (place_is store view l x (is_ready x.standing) (first_of x.layer l.core.id (map slot_layer xs) (map layer_id ls) same) found.0),
   places_shown store view there (k + 1) ls xs (rest_of x.layer l.core.id (map slot_layer xs) (map layer_id ls) same) found.1
       (λ i y is. ap there (moved k i) ∙ each (suc i) y is),
 )
   where
+    none : (k : ℕ) → k ≡ k + 0
+    none k = omega arith
+
     moved : (k i : ℕ) → (k + 1) + i ≡ k + suc i
     moved k i = omega arith
 
@@ -136,8 +139,12 @@ equal_id n = grind (arith, nat_tests)
 is_listed : (xs : List Slot) (k i : ℕ) (x : Slot) → slice_get xs i ≡ Some x → list_any (nat_eq (k + i)) (ready_from k xs) ≡ is_ready x.standing
 is_listed [] k i x is = absurd cc
 is_listed (y ∷ ys) k zero x is =
-    let same : y ≡ x = cc in by (is_ready y.standing) refl ∙ ap (λ (s : Slot). is_ready s.standing) same
+    let same : y ≡ x = cc in
+    ap (λ n. list_any (nat_eq n) (ready_from k (y ∷ ys))) (none k) ∙ by (is_ready y.standing) refl ∙ ap (λ (s : Slot). is_ready s.standing) same
   where
+    none : (k : ℕ) → k + 0 ≡ k
+    none k = omega arith
+
     by : (b : Bool) → is_ready y.standing ≡ b
         → list_any (nat_eq k) (if b then k ∷ ready_from (suc k) ys else ready_from (suc k) ys) ≡ b
     by true is = ap (λ b. b || list_any (nat_eq k) (ready_from (suc k) ys)) (equal_id k)

@@ -1,11 +1,14 @@
 -- What a change of a table is in the state that is computed of it.
 use Rattle.std.proofs.Common.{◌≡◌, ◌∙◌, sym, ap, refl, ℕ, zero, suc, ◌==◌, Bool, true, false, List, [], ◌∷◌, ◌++◌, map, find, take}
 use Rattle.std.proofs.Common.{Option, Some, None, option_map, option_to_list, slice_get, is_some, if◌then◌else◌, cond}
+use Rattle.std.proofs.Common.{subst, ◌&&◌, IsSomeAnd, arith}
+use Rattle.std.proofs.lemmas.Bool.Decides.{nat_tests}
 use Rattle.std.proofs.lemmas.List.{map-append}
+use Rattle.std.proofs.lemmas.Option.{slice_get-map}
 use Rattle.cv_model.specs.declared.edit.Edit.{Edit}
 use Rattle.cv_model.specs.Layers.{Layer, slots}
 use Rattle.cv_model.specs.Paintings.{Painting}
-use Rattle.cv_model.specs.Views.{PixelGrid}
+use Rattle.cv_model.specs.Views.{PixelGrid, IsView}
 use Rattle.cv_store.specs.Stores.{StoreParts, project_of}
 use Rattle.cv_cache.specs.Caches.{painted_id, is_of as is_painting, drop_first as drop_painting, to_front as paintings_front, put_front as paintings_put}
 use Rattle.cv_event.specs.declared.entry.How.{How}
@@ -155,3 +158,23 @@ pub canvases_published : (j : ℕ) (row : Row) (tabs : List Tab) (c : ℕ)
     → map canvas_of (change_at c (tab_publishes j row) tabs) ≡ change_at c (publishes j (job_of row)) (map canvas_of tabs)
 canvases_published j row tabs c =
     map_changed canvas_of (tab_publishes j row) (publishes j (job_of row)) (λ tab. refl) tabs c
+
+-- ---- a view of a canvas's size
+
+equal_by : (a b : ℕ) → (a == b) ≡ true → a ≡ b
+equal_by a b h = grind (arith, nat_tests)
+
+pub sized : (a b c d : ℕ) (x : Bool) → x ≡ ((a == b) && (c == d)) → x ≡ true → (a ≡ b) × (c ≡ d)
+sized a b c d x is passed = by (a == b) (c == d) refl refl (sym passed ∙ is)
+  where
+    by : (p q : Bool) → (a == b) ≡ p → (c == d) ≡ q → true ≡ (p && q) → (a ≡ b) × (c ≡ d)
+    by true true f s is = (equal_by a b f, equal_by c d s)
+    by true false f s is = absurd cc
+    by false q f s is = absurd cc
+
+pub fits_there : (tabs : List Tab) (c : ℕ) (tab : Tab) (view : PixelGrid) → slice_get tabs c ≡ Some tab → IsView view
+    → view.w ≡ tab.spec.w → view.h ≡ tab.spec.h
+    → IsSomeAnd (slice_get (map canvas_of tabs) c) (λ k. IsView view × (view.w ≡ k.spec.w) × (view.h ≡ k.spec.h))
+fits_there tabs c tab view there kept wide high =
+    subst (λ (o : Option Canvas). IsSomeAnd o (λ k. IsView view × (view.w ≡ k.spec.w) × (view.h ≡ k.spec.h)))
+    (sym (slice_get-map canvas_of tabs c ∙ ap (option_map canvas_of) there)) (kept, wide, high)

@@ -19,6 +19,7 @@ use Rattle.cv_event.specs.declared.slot.Standing.TheVariants.{Open, Missed, Read
 use Rattle.cv_event.specs.declared.slot.Task.TheVariants.{Look, Compose}
 use Rattle.cv_event.specs.States.{Job, Cached, Canvas, State, after, begin, change_at, change_job, job_in, did, slot_stands, stands_at, composed_by}
 use Rattle.cv_event.specs.States.{with_cache, served, stored, image_of_slot, change_cache, canvases_delivered, canvases_looked}
+use Rattle.cv_event.specs.Histories.{is_kept}
 use Rattle.cv_event.specs.Legality.{OfSlot, is_open, is_ready, all_ready, task, shows, is_fresh, is_image, hits, hits_on, on_canvas, is_taken, fate_of, Allows}
 use Rattle.cv_event.proofs.JobLemmas.{at_map}
 use Rattle.cv_event.proofs.PaintedLemmas.{IsShownJob, shown_one}
@@ -28,7 +29,8 @@ use Rattle.cv_store.specs.Stores.{StoreParts, project_of, input_in, input_from}
 use Rattle.cv_tables.specs.Rows.{Row, job_of, row_in, change_row, row_stands, row_composed, owed, weight, WhileLive, is_missed}
 use Rattle.cv_tables.specs.Rows.{missed_weight, HasSlot, IsPaintingOf, input_of, input_at, painting_of, painting_shown, compose_of, whole_of}
 use Rattle.cv_tables.specs.Tabs.{Tab, Tables, canvas_of, cached_of, cache_of, tab_served, tab_stored, state_of, TabServes, TabLooked}
-use Rattle.cv_desk.specs.Desks.{History, state, IsPresent, IsFresh, AreFresh, IsCurrent, IsWhole, Holds, IsDesk, Notes}
+use Rattle.cv_desk.specs.Desks.{History, state, IsPresent, IsFresh, AreFresh, IsCurrent, IsWhole, Holds, IsDesk, Notes, KeepJobs}
+use Rattle.cv_desk.proofs.BasisLemmas.{jobs_stand_kept, jobs_composed_kept}
 use Rattle.cv_desk.proofs.KeepingLemmas.{noted, rows_change, stands_whole, owed_in, row_of, slot_of, slot_in_state, missed_change, stands_fresh, stand_holds}
 use Rattle.cv_desk.proofs.PaintedLemmas.{IsPainted, painted, slot_fresh, painted_present, stored_kept, served_kept, served_painting}
 use Rattle.cv_desk.proofs.PaintedLemmas.{found_input, found_any, first_is, layers_apart}
@@ -42,6 +44,14 @@ has_slot rows j at r x P there is p =
     (subst (λ (o : Option Slot). IsSomeAnd o (P r)) (sym is) p)
 
 -- ---- what becomes of a delivery
+
+fated_end : (s : State) (job : Job) (x : Slot) → fate_of s job x ≡ Dropped → is_some job.ended ≡ true
+fated_end s job x fated = by job.ended (on_canvas is_taken s job x) fated
+  where
+    by : (o : Option How) (b : Bool) → (if is_some o then Dropped else if b then Stored else Kept) ≡ Dropped → is_some o ≡ true
+    by None true is = absurd cc
+    by None false is = absurd cc
+    by (Some how) b is = refl
 
 fated_live : (s : State) (job : Job) (x : Slot) (fate : Fate) → (fate ≡ Dropped → ⊥) → fate_of s job x ≡ fate → job.ended ≡ None
 fated_live s job x fate other fated = by job.ended refl fated
@@ -60,7 +70,15 @@ IsFate h j at fate =
 abbrev pub IsAwaited : ℕ → Painting → Row → Slot → Type 0
 IsAwaited who p row x = (x.standing ≡ Missed who) × (row.ended ≡ None → painting_of row.store row.view x ≡ Some p)
 
-live_slot : (h : History) (who j at : ℕ) (p : Painting) (fate some : Fate) → HasSlot h.tables.rows j at (IsAwaited who p)
+pub dropped_slot : (h : History) (who j at : ℕ) (p : Painting) (fate : Fate) → HasSlot h.tables.rows j at (IsAwaited who p)
+    → IsFate h j at fate → fate ≡ Dropped
+    → HasSlot h.tables.rows j at (λ (row : Row) (x : Slot). (x.standing ≡ Missed who) × (is_some row.ended ≡ true))
+dropped_slot h who j at p fate awaited told is =
+    let q = slot_of h.tables.rows j at (IsAwaited who p) awaited in
+    has_slot h.tables.rows j at q.0 q.1 (λ (row : Row) (x : Slot). (x.standing ≡ Missed who) × (is_some row.ended ≡ true)) q.2 q.3
+    (q.4.0, fated_end (state h) (job_of q.0) q.1 (sym (told q.0 q.1 q.2 q.3) ∙ is))
+
+pub live_slot : (h : History) (who j at : ℕ) (p : Painting) (fate some : Fate) → HasSlot h.tables.rows j at (IsAwaited who p)
     → IsFate h j at fate → fate ≡ some → (some ≡ Dropped → ⊥)
     → HasSlot h.tables.rows j at (λ (row : Row) (x : Slot). (x.standing ≡ Missed who) × IsPaintingOf p row x
     × (fate_of (state h) (job_of row) x ≡ some))
@@ -73,25 +91,7 @@ live_slot h who j at p fate some awaited told is other =
 
 -- ---- the slot of a task
 
-pub kept_slot : (h : History) (who j at : ℕ) (p : Painting) (fate : Fate) → HasSlot h.tables.rows j at (IsAwaited who p)
-    → IsFate h j at fate → fate ≡ Kept
-    → HasSlot h.tables.rows j at (λ (row : Row) (x : Slot). (x.standing ≡ Missed who) × IsPaintingOf p row x
-    × (fate_of (state h) (job_of row) x ≡ Kept))
-kept_slot h who j at p fate awaited told is = live_slot h who j at p fate Kept awaited told is other
-  where
-    other : Kept ≡ Dropped → ⊥
-    other same = cc
-
-pub stored_slot : (h : History) (who j at : ℕ) (p : Painting) (fate : Fate) → HasSlot h.tables.rows j at (IsAwaited who p)
-    → IsFate h j at fate → fate ≡ Stored
-    → HasSlot h.tables.rows j at (λ (row : Row) (x : Slot). (x.standing ≡ Missed who) × IsPaintingOf p row x
-    × (fate_of (state h) (job_of row) x ≡ Stored))
-stored_slot h who j at p fate awaited told is = live_slot h who j at p fate Stored awaited told is other
-  where
-    other : Stored ≡ Dropped → ⊥
-    other same = cc
-
--- the slot of a job that is to be looked at: the job has no end, and the slot is open
+-- the slot of a job that is to be looked at: the job has no end, and at the slot wasn't looked yet
 abbrev IsDue : Row → Slot → Type 0
 IsDue r slot = (r.ended ≡ None) × (is_open slot.standing ≡ true)
 
@@ -127,7 +127,7 @@ due_find h j at r due there = by (slice_get r.slots at) refl
     by : (o : Option Slot) → slice_get r.slots at ≡ o
         → (x : Slot) × (slice_get r.slots at ≡ Some x) × (r.ended ≡ None) × (is_open x.standing ≡ true)
     by None is = absurd (due_slot h j at r due there is)
-    by (Some x) is = let opened = due_open h j at r x due there is in (x, is, opened.0, opened.1)
+    by (Some x) is = let yet = due_open h j at r x due there is in (x, is, yet.0, yet.1)
 
 -- each slot has an input
 shown_more : (s : State) (rest : List Entry) → AllByRecursion IsShownJob s.jobs → AllByRecursion IsShownJob (fold after s rest).jobs
@@ -233,6 +233,7 @@ stored_noted h who j at left p tabs rows journal r x kept there is was paints fa
     there is (was, sym fated) in
     noted h (act.Deliver j at Stored) who left (record t { tabs = tabs; rows = rows }) journal kept longer allowed
     (stored_seen h who j at p tabs rows r x there is own taken made) holds
+    (subst (KeepJobs t.rows) (sym made) (jobs_stand_kept at Ready j t.rows))
 
 -- ---- a look
 
@@ -241,10 +242,10 @@ looked_holds : (t : Tables) (spare left owes j at : ℕ) (standing : Standing) (
     → slice_get r.slots at ≡ Some x → is_open x.standing ≡ true → missed_weight (slot_stands standing x) ≡ owes
     → spare ≤ left + 1 → owed t.rows + suc owes ≤ spare → Holds t spare
     → Holds (record t { rows = (change_row j (row_stands at standing) t.rows) }) left
-looked_holds t spare left owes j at standing r x there is opened after less room kept =
+looked_holds t spare left owes j at standing r x there is yet after less room kept =
     let sum = owed_in (row_stands at standing) t.rows j r there in
     let one = missed_change (slot_stands standing) r.slots at x is in
-    let before = open_weight x opened in record {
+    let before = open_weight x yet in record {
       opened = kept.opened;
       caches = kept.caches;
       slots = rows_change (AreFresh t.store) j (row_stands at standing) t.rows (stands_fresh t.store at standing) kept.slots;
@@ -298,9 +299,9 @@ pub hit_noted : (h : History) (who j at left : ℕ) (tabs : List Tab) (rows : Li
       tables = record h.tables { tabs = tabs; rows = rows };
     } in
     IsDesk new × Notes h new who (act.Look j at true)
-hit_noted h who j at left tabs rows journal r x kept due there is opened hit taken made longer less room =
+hit_noted h who j at left tabs rows journal r x kept due there is yet hit taken made longer less room =
     let t = h.tables in
-    let stands = looked_holds t h.spare left 0 j at Ready r x there is opened refl less room kept.holds in
+    let stands = looked_holds t h.spare left 0 j at Ready r x there is yet refl less room kept.holds in
     let caches = all_change (IsCurrent t.store) (tab_served x.layer) (served_kept t.store x.layer) t.tabs r.canvas kept.holds.caches in
     let holds : Holds (record t { tabs = tabs; rows = rows }) left = record {
       opened = kept.holds.opened;
@@ -311,6 +312,7 @@ hit_noted h who j at left tabs rows journal r x kept due there is opened hit tak
     } in
     noted h (act.Look j at true) who left (record t { tabs = tabs; rows = rows }) journal kept longer (due, sym hit)
     (served_seen h who j at tabs rows r x there is taken made) holds
+    (subst (KeepJobs t.rows) (sym made) (jobs_stand_kept at Ready j t.rows))
 
 pub miss_noted : (h : History) (who j at left : ℕ) (rows : List Row) (journal : List Entry) (r : Row) (x : Slot) → IsDesk h
     → task (state h) ≡ Some (Look j at) → row_in h.tables.rows j ≡ Some r → slice_get r.slots at ≡ Some x
@@ -324,13 +326,14 @@ pub miss_noted : (h : History) (who j at left : ℕ) (rows : List Row) (journal 
       tables = record h.tables { rows = rows };
     } in
     IsDesk new × Notes h new who (act.Look j at false)
-miss_noted h who j at left rows journal r x kept due there is opened missed made longer less room =
+miss_noted h who j at left rows journal r x kept due there is yet missed made longer less room =
     let t = h.tables in
     let holds = subst (λ l. Holds (record t { rows = l }) left) (sym made)
-    (looked_holds t h.spare left 1 j at (Missed who) r x there is opened refl less room kept.holds) in
+    (looked_holds t h.spare left 1 j at (Missed who) r x there is yet refl less room kept.holds) in
     let seen : did (state h) who (act.Look j at false) ≡ state_of (record t { rows = rows }) =
     ap (λ l. record (state h) { jobs = l }) (sym (jobs_stand at (Missed who) t.rows j) ∙ ap (map job_of) (sym made)) in
     noted h (act.Look j at false) who left (record t { rows = rows }) journal kept longer (due, sym missed) seen holds
+    (subst (KeepJobs t.rows) (sym made) (jobs_stand_kept at (Missed who) j t.rows))
 
 -- ---- what a look hits
 
@@ -506,3 +509,29 @@ compose_noted h who j left rows journal r kept due there made longer less room =
     let seen : did (state h) who (act.Compose j) ≡ state_of (record t { rows = rows }) =
     ap (λ l. record (state h) { jobs = l }) (sym (jobs_composed who t.rows j) ∙ ap (map job_of) (sym made)) in
     noted h (act.Compose j) who left (record t { rows = rows }) journal kept longer due seen holds
+    (subst (KeepJobs t.rows) (sym made) (jobs_composed_kept who j t.rows))
+
+-- ---- a delivery
+
+-- what isn't dropped is of a job without end
+live_fate : (s : State) (job : Job) (x : Slot) (fate : Fate) → is_kept fate ≡ true → fate_of s job x ≡ fate → job.ended ≡ None
+live_fate s job x fate keeps is = by job.ended is
+  where
+    by : (o : Option How) → (if is_some o then Dropped else if on_canvas is_taken s job x then Stored else Kept) ≡ fate → o ≡ None
+    by None told = refl
+    by (Some how) told = absurd (false≢true (ap is_kept told ∙ keeps))
+
+pub delivered_slot : (h : History) (who j at : ℕ) (painted : Painting) (fate : Fate) → is_kept fate ≡ true
+    → HasSlot h.tables.rows j at
+    (λ (row : Row) (x : Slot). (x.standing ≡ Missed who) × (row.ended ≡ None → painting_of row.store row.view x ≡ Some painted))
+    → ((row : Row) (x : Slot) → row_in h.tables.rows j ≡ Some row → slice_get row.slots at ≡ Some x → fate_of (state h) (job_of row) x ≡ fate)
+    → HasSlot h.tables.rows j at
+    (λ (row : Row) (x : Slot). (x.standing ≡ Missed who) × IsPaintingOf painted row x × (fate_of (state h) (job_of row) x ≡ fate))
+delivered_slot h who j at painted fate keeps had told =
+    let q = slot_of h.tables.rows j at
+    (λ (row : Row) (x : Slot). (x.standing ≡ Missed who) × (row.ended ≡ None → painting_of row.store row.view x ≡ Some painted)) had in
+    let f = told q.0 q.1 q.2 q.3 in
+    let live = live_fate (state h) (job_of q.0) q.1 fate keeps f in
+    has_slot h.tables.rows j at q.0 q.1
+    (λ (row : Row) (x : Slot). (x.standing ≡ Missed who) × IsPaintingOf painted row x × (fate_of (state h) (job_of row) x ≡ fate)) q.2 q.3
+    (q.4.0, (live, q.4.1 live), f)

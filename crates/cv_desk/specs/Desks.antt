@@ -2,11 +2,12 @@
 --
 -- Source: in outline the developer documentation of QGIS (`QgsMapRendererParallelJob`, `QgsMapRendererCache`). All
 -- rules are this project's own.
-use Rattle.std.specs.Prelude.{◌≡◌, ◌≤◌, ◌++◌, ◌∷◌, [], ℕ, false, nat_eq, List, map, Some, IfSome}
+use Rattle.std.specs.Prelude.{◌≡◌, ◌≤◌, ◌++◌, ◌∷◌, [], ℕ, false, nat_eq, List, map, take, length, Some, IfSome}
 use Rattle.std.specs.List.{AllByRecursion, IsDistinct}
 use Rattle.cv_model.specs.declared.project.CanvasSpec.{CanvasSpec}
 use Rattle.cv_model.specs.Layers.{Opening, slots}
 use Rattle.cv_model.specs.Paintings.{Painting}
+use Rattle.cv_model.specs.Views.{PixelGrid}
 use Rattle.cv_store.specs.Stores.{StoreParts, project_of, id_of, input_in}
 use Rattle.cv_cache.specs.Caches.{painted_id}
 use Rattle.cv_event.specs.declared.entry.Act.{Act}
@@ -68,12 +69,28 @@ pub record IsDesk (h : History) : Type 0 where
 
 -- ---- what a call does to a desk
 
--- an act of a caller was put behind the journal, as it is allowed, and the state is that behind it
+-- what of a job never changes: its canvas, its store, its view, and the layers of its slots
+pub record Basis : Type 0 where
+  pub canvas : ℕ
+  pub store : StoreParts
+  pub view : PixelGrid
+  pub layers : List ℕ
+
+abbrev pub basis_of : Row → Basis
+basis_of row = record { canvas = row.canvas; store = row.store; view = row.view; layers = map slot_layer row.slots }
+
+-- the jobs that were there are there, under their numbers
+abbrev pub KeepJobs : List Row → List Row → Type 0
+KeepJobs old new = take (length old) (map basis_of new) ≡ map basis_of old
+
+-- an act of a caller was put behind the journal, as it is allowed, the state is that behind it, and jobs keep what
+-- never changes
 pub record Notes (old new : History) (who : ℕ) (a : Act) : Type 0 where
   pub opening : new.opening ≡ old.opening
   pub journal : new.journal ≡ old.journal ++ record { caller = who; act = a } ∷ []
   pub becomes : state new ≡ did (state old) who a
   pub allowed : Allows (state old) who a
+  pub jobs : KeepJobs old.tables.rows new.tables.rows
 
 -- nothing was put, and nothing changed but the places set aside
 pub record Stays (old new : History) : Type 0 where

@@ -59,7 +59,7 @@ pub record IsHistory (opened : History) (calls : List Call) (h : History) : Type
   pub legal : IsLegal h.opening h.journal
   pub state : replay h.opening h.journal ≡ state h
 
-CallsMakeHistory : Type 0
+abbrev pub CallsMakeHistory : Type 0
 CallsMakeHistory =
     (opened : History) (calls : List Call) → IsOpened opened → AreCalls opened calls
     → IsHistory opened calls (left_by opened calls)
@@ -108,5 +108,5 @@ pub record IsKnown (h : History) : Type 0 where
   pub canvases : (c : ℕ) (tab : Tab) → slice_get h.tables.tabs c ≡ Some tab → ShowsCanvas h c tab
   pub jobs : (j : ℕ) (row : Row) → row_in h.tables.rows j ≡ Some row → ShowsJob h j row
 
-DesksAreKnown : Type 0
+abbrev pub DesksAreKnown : Type 0
 DesksAreKnown = (h : History) → IsDesk h → IsKnown h

@@ -267,7 +267,9 @@ impl Desk {
     /// published picture is what the definitions name. It does nothing.
     pub fn known(&self)
         ensures { IsKnown self.now }
-    {}
+    {
+        let _ = &self.alloc;
+    }
 
     /// The journal alone. Takes no memory.
     pub fn into_journal(self) -> Journal

@@ -7,6 +7,7 @@ use Rattle.cv_tables.specs.Rows.{owed}
 use Rattle.cv_tables.specs.Tabs.{Tab, Tables}
 use Rattle.cv_desk.specs.Desks.{History, state, Notes, IsDesk}
 use Rattle.cv_desk.specs.Answers.{FitsCanvas}
+use Rattle.cv_desk.proofs.BasisLemmas.{jobs_same}
 use Rattle.cv_desk.proofs.KeepingLemmas.{noted, same_holds, view_holds, view_seen, start_holds, start_seen}
 use Rattle.cv_desk.proofs.desk.Desk.note_preview.Goals as goal
 
@@ -24,4 +25,5 @@ invariant_of-self c =
     let room = subst (λ n. owed n.tables.rows + 1 ≤ n.spare) (sym c.self.view_is) c.requires.room in
     let allowed = subst (λ n. Allows (state n) c.args.who (act.Preview c.args.job c.args.ready)) (sym c.self.view_is) c.requires.job in
     (noted h (act.Preview c.args.job c.args.ready) c.args.who c.push.new.self.spare h.tables c.push.new.self.entries c.self.invariant
-    c.push.ensures.entries allowed refl (same_holds h.tables h.spare c.push.new.self.spare c.push.ensures.spare room c.self.invariant.holds)).0
+    c.push.ensures.entries allowed refl (same_holds h.tables h.spare c.push.new.self.spare c.push.ensures.spare room c.self.invariant.holds)
+    (jobs_same h.tables.rows)).0

@@ -3,10 +3,11 @@ use Rattle.cv_event.specs.declared.entry.Act.TheVariants as act
 use Rattle.cv_event.specs.Legality.{OfJob, Allows}
 use Rattle.cv_event.specs.States.{view_on, change_at}
 use Rattle.cv_store.specs.Stores.{project_of}
-use Rattle.cv_tables.specs.Rows.{owed}
+use Rattle.cv_tables.specs.Rows.{owed, new_row}
 use Rattle.cv_tables.specs.Tabs.{Tab, Tables, tab_viewed}
-use Rattle.cv_desk.specs.Desks.{History, state, Notes, IsDesk, Holds}
+use Rattle.cv_desk.specs.Desks.{History, state, Notes, IsDesk, Holds, KeepJobs}
 use Rattle.cv_desk.specs.Answers.{FitsCanvas}
+use Rattle.cv_desk.proofs.BasisLemmas.{jobs_started_kept}
 use Rattle.cv_desk.proofs.KeepingLemmas.{noted, same_holds, view_holds, view_seen, start_holds, start_seen, started_rows}
 use Rattle.cv_desk.proofs.desk.Desk.note_start.Goals as goal
 
@@ -30,7 +31,8 @@ invariant_of-self c =
     (start_holds h.tables h.spare c.push.new.self.spare c.args.canvas c.args.view c.len.ensures.kept.distinct c.push.ensures.spare room c.self.invariant.holds) in
     let both = noted h a c.args.who c.push.new.self.spare (record h.tables { rows = rows }) c.push.new.self.entries c.self.invariant
     c.push.ensures.entries (started_rows h c.args.who c.args.canvas c.in-Ok.job c.args.view view c.in-Ok.ensures.number few)
-    (start_seen h c.args.who c.args.canvas c.in-Ok.job c.args.view rows view c.in-Ok.ensures.ok) holds in
+    (start_seen h c.args.who c.args.canvas c.in-Ok.job c.args.view rows view c.in-Ok.ensures.ok) holds
+    (subst (KeepJobs h.tables.rows) (sym c.in-Ok.ensures.ok) (jobs_started_kept c.args.canvas (new_row c.args.canvas h.tables.store c.args.view) h.tables.rows)) in
     both.0
 
 pub returns-in-Ok-clause-ok : goal.returns-in-Ok-clause-ok
@@ -53,7 +55,8 @@ returns-in-Ok-clause-ok c =
     (start_holds h.tables h.spare c.push.new.self.spare c.args.canvas c.args.view c.len.ensures.kept.distinct c.push.ensures.spare room c.self.invariant.holds) in
     let both = noted h a c.args.who c.push.new.self.spare (record h.tables { rows = rows }) c.push.new.self.entries c.self.invariant
     c.push.ensures.entries (started_rows h c.args.who c.args.canvas c.in-Ok.job c.args.view view c.in-Ok.ensures.number few)
-    (start_seen h c.args.who c.args.canvas c.in-Ok.job c.args.view rows view c.in-Ok.ensures.ok) holds in
+    (start_seen h c.args.who c.args.canvas c.in-Ok.job c.args.view rows view c.in-Ok.ensures.ok) holds
+    (subst (KeepJobs h.tables.rows) (sym c.in-Ok.ensures.ok) (jobs_started_kept c.args.canvas (new_row c.args.canvas h.tables.store c.args.view) h.tables.rows)) in
     let new : History = record {
       opening = h.opening;
       journal = c.push.new.self.entries;

@@ -7,6 +7,7 @@ use Rattle.cv_tables.specs.Rows.{owed}
 use Rattle.cv_tables.specs.Tabs.{Tab, Tables, tab_viewed}
 use Rattle.cv_desk.specs.Desks.{History, state, Notes, IsDesk, Holds}
 use Rattle.cv_desk.specs.Answers.{FitsCanvas}
+use Rattle.cv_desk.proofs.BasisLemmas.{jobs_same}
 use Rattle.cv_desk.proofs.KeepingLemmas.{noted, same_holds, view_holds, view_seen, start_holds, start_seen, started_allowed}
 use Rattle.cv_desk.proofs.desk.Desk.note_view.Goals as goal
 
@@ -28,7 +29,7 @@ invariant_of-self c =
     let holds = subst (λ l. Holds (record h.tables { tabs = l }) c.push.new.self.spare) (sym c.set_view.ensures)
     (view_holds h.tables h.spare c.push.new.self.spare c.args.canvas c.args.view c.push.ensures.spare room c.self.invariant.holds) in
     let both = noted h a c.args.who c.push.new.self.spare (record h.tables { tabs = tabs }) c.push.new.self.entries c.self.invariant
-    c.push.ensures.entries allowed (view_seen h c.args.who c.args.canvas c.args.view tabs c.set_view.ensures) holds in
+    c.push.ensures.entries allowed (view_seen h c.args.who c.args.canvas c.args.view tabs c.set_view.ensures) holds (jobs_same h.tables.rows) in
     both.0
 
 pub returns : goal.returns
@@ -49,7 +50,7 @@ returns c =
     let holds = subst (λ l. Holds (record h.tables { tabs = l }) c.push.new.self.spare) (sym c.set_view.ensures)
     (view_holds h.tables h.spare c.push.new.self.spare c.args.canvas c.args.view c.push.ensures.spare room c.self.invariant.holds) in
     let both = noted h a c.args.who c.push.new.self.spare (record h.tables { tabs = tabs }) c.push.new.self.entries c.self.invariant
-    c.push.ensures.entries allowed (view_seen h c.args.who c.args.canvas c.args.view tabs c.set_view.ensures) holds in
+    c.push.ensures.entries allowed (view_seen h c.args.who c.args.canvas c.args.view tabs c.set_view.ensures) holds (jobs_same h.tables.rows) in
     let new : History = record {
       opening = h.opening;
       journal = c.push.new.self.entries;
