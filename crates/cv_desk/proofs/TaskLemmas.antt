@@ -394,6 +394,15 @@ look_found h j at r x i kept there is live input hit =
               (q.1, (ap (λ (n : Input). n.stamps) same, q.2));
         }
 
+-- what a look answered, in the job's words
+pub looked_up : (h : History) (r : Row) (x : Slot) (c : ℕ) (stamps : List Stamp) (view : PixelGrid) (new : List Tab)
+    (o q : Option Painting) → c ≡ r.canvas → view ≡ r.view → o ≡ q → TabLooked h.tables.tabs new c x.layer stamps view o
+    → TabLooked h.tables.tabs new r.canvas x.layer stamps r.view q
+looked_up h r x c stamps view new o q canvas_is view_is is looked =
+    subst (λ n. TabLooked h.tables.tabs new n x.layer stamps r.view q) canvas_is
+    (subst (λ v. TabLooked h.tables.tabs new c x.layer stamps v q) view_is
+    (subst (λ k. TabLooked h.tables.tabs new c x.layer stamps view k) is looked))
+
 -- so it misses where the slot is touched, where the view isn't shown, and where nothing is found
 unhit : (b : Bool) → (b ≡ true → ⊥) → b ≡ false
 unhit true never = absurd (never refl)
