@@ -186,8 +186,8 @@ longer_front (z ∷ zs) (y ∷ ys) (x ∷ xs) h g =
     λ i. (next ∙ top) i ∷ longer_front zs ys xs below rest i
 
 pub keep_more : (a b c : List Row) → KeepJobs a b → KeepJobs b c → KeepJobs a c
-keep_more a b c first then =
+keep_more a b c first second =
     ap (λ n. take n (map basis_of c)) (sym (length-map a basis_of))
     ∙ longer_front (map basis_of a) (map basis_of b) (map basis_of c)
     (ap (λ n. take n (map basis_of b)) (length-map a basis_of) ∙ first)
-    (ap (λ n. take n (map basis_of c)) (length-map b basis_of) ∙ then)
+    (ap (λ n. take n (map basis_of c)) (length-map b basis_of) ∙ second)
