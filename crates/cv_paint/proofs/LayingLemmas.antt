@@ -97,6 +97,13 @@ lays_where view hit used colour before after area made runs paint whole held are
 pub lays_none : (view : PixelGrid) (f : ℕ → ℕ → Rgba) → Lays view (λ p. []) f f
 lays_none view f = record { at = λ i j column row. refl }
 
+-- strokes that are none at each centre leave all as it is
+pub lays_missed : (view : PixelGrid) (s : Position → List Rgba) (f : ℕ → ℕ → Rgba)
+    → ((i j : ℕ) → i < view.w → j < view.h → s (centre_of view i j) ≡ []) → Lays view s f f
+lays_missed view s f none = record {
+  at = λ i j column row. sym (ap (λ (cs : List Rgba). laid_on (f i j) cs) (none i j column row));
+}
+
 -- strokes laid, and then others
 pub lays_both : (view : PixelGrid) (s t : Position → List Rgba) (before mid after : ℕ → ℕ → Rgba)
     → Lays view s before mid → Lays view t mid after → Lays view (λ p. s p ++ t p) before after

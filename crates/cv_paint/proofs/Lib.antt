@@ -5,5 +5,6 @@ pub mod MaskLemmas
 pub mod CellLemmas
 pub mod PaintedLemmas
 pub mod TableLemmas
+pub mod FarLemmas
 pub mod CostLemmas
 pub mod WindowLemmas

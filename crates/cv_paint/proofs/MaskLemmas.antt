@@ -60,6 +60,13 @@ covers_where view test before after area made runs whole held are covered = reco
       ∙ ap (λ (on : Bool). before i j || on) (are.covered i j (subst (λ a. IsIn a i j) (sym whole) inside));
 }
 
+-- a test that holds at no centre leaves all as it is
+pub covers_missed : (view : PixelGrid) (t : Position → Bool) (f : ℕ → ℕ → Bool)
+    → ((i j : ℕ) → i < view.w → j < view.h → t (centre_of view i j) ≡ false) → Covers view t f f
+covers_missed view t f none = record {
+  at = λ i j column row. or_none (f i j) ∙ ap (λ (b : Bool). f i j || b) (sym (none i j column row));
+}
+
 -- one pixel more is kept where it is shown
 pub kept_more : (cs : List Bool) (xs : List Rgba) (i : ℕ) (d : Bool) (e : Rgba) → i < length cs → i < length xs
     → set (kept (take i cs) xs) i (shown (get_or cs i d) (get_or (kept (take i cs) xs) i e)) ≡ kept (take (suc i) cs) xs

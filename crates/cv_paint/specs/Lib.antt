@@ -3,5 +3,6 @@ pub mod Layings
 pub mod Finish
 pub mod Masks
 pub mod Cells
+pub mod Far
 pub mod Windows
 pub mod Costs

@@ -8,6 +8,7 @@ ghost use Rattle.cv_paint.specs.Finish.{StopCause};
 ghost use Rattle.cv_paint.specs.Costs.{feature_cost, features_cost};
 
 use crate::error::PaintError;
+use crate::far::is_missed;
 use crate::layings::{Workspace, lay_geometry};
 use crate::texts::feature_symbol;
 use cv_canvas::Canvas;
@@ -17,7 +18,8 @@ use cv_model::{NoMemory, View};
 use cv_outside::Stop;
 use std::sync::ledger::Ledger;
 
-/// Lays what a feature of a layer lays on each pixel of a view.
+/// Lays what a feature of a layer lays on each pixel of a view. One whose box lies beyond the view is passed
+/// over.
 fn lay_row<C: Canvas, L: Ledger>(
     canvas: &mut C,
     row: &FeatureRow,
@@ -39,6 +41,9 @@ fn lay_row<C: Canvas, L: Ledger>(
     let Some(geometry) = row.geometry() else {
         return Ok(());
     };
+    if is_missed(row, symbol, view) {
+        return Ok(());
+    }
     lay_geometry(canvas, geometry, symbol, view, work, steps)?;
     Ok(())
 }

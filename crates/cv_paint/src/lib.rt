@@ -9,6 +9,7 @@
 mod cells;
 mod centres;
 mod error;
+mod far;
 mod features;
 mod finish;
 mod hits;

@@ -11,6 +11,7 @@ ghost use Rattle.cv_paint.specs.Masks.{Covers, with_covered};
 ghost use Rattle.cv_paint.specs.Costs.{geometry_cost, feature_cost, features_cost};
 
 use crate::error::PaintError;
+use crate::far::is_outside;
 use crate::layings::{Workspace, whole_of};
 use crate::steps::count;
 use cv_canvas::Cover;
@@ -76,7 +77,8 @@ pub fn cover_geometry<L: Ledger>(
     Ok(())
 }
 
-/// Covers the pixels whose centres some polygon of a feature has inside.
+/// Covers the pixels whose centres some polygon of a feature has inside. One whose box lies beyond the view
+/// is passed over.
 fn cover_row<L: Ledger>(
     cover: &mut Cover,
     row: &FeatureRow,
@@ -94,6 +96,9 @@ fn cover_row<L: Ledger>(
     let Some(geometry) = row.geometry() else {
         return Ok(());
     };
+    if is_outside(row, view) {
+        return Ok(());
+    }
     cover_geometry(cover, geometry, view, work, steps)?;
     Ok(())
 }
