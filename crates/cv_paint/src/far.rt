@@ -77,7 +77,8 @@ fn is_beyond(first: i64, last: i64, r: i64, low: i64, high: i64) -> bool
 fn are_across(first: Point2, last: Point2, r: i64, bounds: &Extent) -> bool
     requires { IsRadius r }
     ensures { result
-        ≡ (int_lt (last.x +ℤ r) (pos 2 *ℤ bounds.now.xmin) || int_lt (pos 2 *ℤ bounds.now.xmax) (first.x -ℤ r)) }
+        ≡ (int_lt (last.x +ℤ r) (pos 2 *ℤ bounds.now.xmin)
+        || int_lt (pos 2 *ℤ bounds.now.xmax) (first.x -ℤ r)) }
 {
     is_beyond(first.x, last.x, r, bounds.xmin, bounds.xmax)
 }
@@ -86,7 +87,8 @@ fn are_across(first: Point2, last: Point2, r: i64, bounds: &Extent) -> bool
 fn are_along(first: Point2, last: Point2, r: i64, bounds: &Extent) -> bool
     requires { IsRadius r }
     ensures { result
-        ≡ (int_lt (first.y +ℤ r) (pos 2 *ℤ bounds.now.ymin) || int_lt (pos 2 *ℤ bounds.now.ymax) (last.y -ℤ r)) }
+        ≡ (int_lt (first.y +ℤ r) (pos 2 *ℤ bounds.now.ymin)
+        || int_lt (pos 2 *ℤ bounds.now.ymax) (last.y -ℤ r)) }
 {
     is_beyond(last.y, first.y, r, bounds.ymin, bounds.ymax)
 }
@@ -95,7 +97,8 @@ fn are_along(first: Point2, last: Point2, r: i64, bounds: &Extent) -> bool
 fn are_beyond(first: Point2, last: Point2, r: i64, bounds: &Extent) -> bool
     requires { IsRadius r }
     ensures { result ≡ (
-        (int_lt (last.x +ℤ r) (pos 2 *ℤ bounds.now.xmin) || int_lt (pos 2 *ℤ bounds.now.xmax) (first.x -ℤ r))
+        (int_lt (last.x +ℤ r) (pos 2 *ℤ bounds.now.xmin)
+        || int_lt (pos 2 *ℤ bounds.now.xmax) (first.x -ℤ r))
         || (int_lt (first.y +ℤ r) (pos 2 *ℤ bounds.now.ymin)
         || int_lt (pos 2 *ℤ bounds.now.ymax) (last.y -ℤ r))) }
 {
