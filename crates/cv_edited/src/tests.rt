@@ -1,84 +1,28 @@
-//! Worked edits, from outside: what each answers, with memory at hand.
-use crate::no_features;
-use cv_layer::{LayerContents, Stamp, Stamps};
-use cv_model::{
-    Blend, Edit, EditError, Feature, LayerData, NewLayer, NoMemory, Rgb, Scales, Style, Symbol,
-    Text, Values,
-};
-use cv_store::Store;
-use std::alloc::Global;
+//! Edits that are accepted, and what they make.
+use crate::worked::{held, mixed, seen, store, told};
+use cv_layer::{Stamp, Stamps};
+use std::alloc::AllocError;
 use std::test::Fail;
 
-const WHITE: Rgb = Rgb {
-    r: 255,
-    g: 255,
-    b: 255,
-};
+/// A square multiplied onto another one, which is painted within a third.
+const TWO: &str = concat!(
+    r#"{"version":1,"background":"ffffff","#,
+    r#""canvases":[{"width":4,"height":4,"cache":1024,"extent":["0","0","4","4"]}],"layers":["#,
+    r#"{"id":2,"name":"top","source":{"kind":"text","file":"a"},"blend":"multiply","#,
+    r#""style":{"kind":"single","symbol":{"fill":"646464"}}},"#,
+    r#"{"id":1,"name":"base","source":{"kind":"text","file":"b"},"mask":3,"#,
+    r#""style":{"kind":"single","symbol":{"fill":"c8c8c8"}}},"#,
+    r#"{"id":3,"name":"mask","source":{"kind":"text","file":"c"},"visible":false,"#,
+    r#""style":{"kind":"single","symbol":{}}}]}"#
+);
 
-const ALL: Scales = Scales {
-    least: None,
-    greatest: None,
-};
+const SQUARES: [&str; 3] = [
+    "wkt\n\"POLYGON((1 1,3 1,3 3,1 3,1 1))\"\n",
+    "wkt\n\"POLYGON((0 0,4 0,4 4,0 4,0 0))\"\n",
+    "wkt\n\"POLYGON((0 0,4 0,4 2,0 2,0 0))\"\n",
+];
 
-fn plain() -> Style {
-    Style::Single(Symbol {
-        fill: None,
-        pen: None,
-        marker: None,
-    })
-}
-
-/// The addition of a text layer at the top.
-fn layer(alloc: Global, id: u32, mask: Option<u32>) -> Result<Edit, NoMemory> {
-    Ok(Edit::AddLayer {
-        place: 0,
-        layer: NewLayer {
-            id,
-            name: Text::of(alloc, "a")?,
-            contents: LayerData::Text(no_features(alloc)?),
-            visible: true,
-            opacity: 255,
-            blend: Blend::Normal,
-            mask,
-            join: None,
-            style: plain(),
-            scales: ALL,
-        },
-    })
-}
-
-fn feature(alloc: Global, id: u32) -> Result<Feature, NoMemory> {
-    let mut values = Values::new(alloc);
-    values.put(Text::of(alloc, "x")?)?;
-    Ok(Feature {
-        id,
-        geometry: None,
-        values,
-    })
-}
-
-/// A store with the layers 2, 1 and 3, of which 1 is masked by 3, at version 4.
-fn store(alloc: Global) -> Result<Store, Fail> {
-    let mut store = Store::new(alloc, WHITE);
-    for (id, mask) in [(3, None), (1, Some(3)), (2, None)] {
-        if store.apply(&layer(alloc, id, mask)?).is_err() {
-            return Err(Fail::from(std::alloc::AllocError));
-        }
-    }
-    Ok(store)
-}
-
-/// What a store answers.
-fn answer(store: &mut Store, edit: &Edit) -> Option<u64> {
-    store.apply(edit).ok()
-}
-
-/// Why a store refuses.
-fn refusal(store: &mut Store, edit: &Edit) -> Option<EditError> {
-    store.apply(edit).err()
-}
-
-/// The stamps of a layer of id 1 and of its mask layer 3, of these revisions.
+/// The stamps of layer 1 and of its mask layer 3, of these revisions.
 fn stamps(own: u64, mask: u64) -> Option<Stamps> {
     let own = Stamp {
         id: 1,
@@ -91,50 +35,84 @@ fn stamps(own: u64, mask: u64) -> Option<Stamps> {
     Some(Stamps::Two(own, mask))
 }
 
-/// How many features a layer has.
-fn count(store: &Store, layer: u32) -> Result<u64, NoMemory> {
-    match store.input(layer)? {
-        Some(input) => match input.value().layer().contents() {
-            LayerContents::Text(table) => Ok(table.rows().len()),
-            LayerContents::Grid(_) => Ok(0),
-        },
-        None => Ok(0),
-    }
+#[test]
+fn a_refused_edit_counts_for_nothing(rt: HostRuntime) -> Result<(), Fail> {
+    let mut store = store(rt.alloc(), TWO, SQUARES)?;
+    let script = "add-feature 2 1 \"POINT(1 1)\"\nset-cell 2 0 0 5\nremove-feature 2 1\n";
+    let told = told(rt.alloc(), &mut store, script)?;
+    assert_eq!(rt; told.as_str(), "DuplicateId WrongKind 2 ");
+    Ok(())
+}
+
+#[test]
+fn a_feature_stands_at_its_place(rt: HostRuntime) -> Result<(), Fail> {
+    let mut store = store(rt.alloc(), TWO, SQUARES)?;
+    let script = "insert-feature 3 2 5 \"POINT(1 1)\"\ninsert-feature 3 1 5 \"POINT(1 1)\"\n";
+    let told = told(rt.alloc(), &mut store, script)?;
+    assert_eq!(rt; told.as_str(), "BadPlace 2 ");
+    Ok(())
 }
 
 #[test]
 fn stamps_follow_the_mask_layer(rt: HostRuntime) -> Result<(), Fail> {
-    let alloc = rt.alloc();
-    let mut store = store(alloc)?;
-    assert_eq!(rt; store.stamps(1), stamps(3, 2));
+    let mut store = store(rt.alloc(), TWO, SQUARES)?;
+    assert_eq!(rt; store.stamps(1), stamps(1, 1));
+    drop(told(rt.alloc(), &mut store, "remove-layer 3")?);
+    assert_eq!(rt; store.stamps(1), stamps(1, 0));
+    drop(told(rt.alloc(), &mut store, "add-layer 2 3 mask")?);
+    assert_eq!(rt; store.stamps(1), stamps(1, 3));
+    Ok(())
+}
+
+/// Each edit once, of the store of a text layer 1 over a grid 2.
+const EACH: &str = concat!(
+    "add-feature 1 7 \"POINT(3 3)\" z\ninsert-feature 1 1 8 \"POINT(4 4)\" w\nremove-feature 1 1\n",
+    "set-geometry 1 2 none\nset-attribute 1 2 name v\nset-cell 2 1 0 nan\nset-style 1 fill 000000\n",
+    "set-mask 1 2\nset-join 1 2 name name\nadd-layer 0 3 new name\nopacity 1 9\nblend 1 screen\n",
+    "hide 1\nset-scales 1 1 none\nmove 1 2\nbackground 000000\nremove-layer 3\n"
+);
+
+#[test]
+fn each_edit_is_accepted(rt: HostRuntime) -> Result<(), Fail> {
+    let mut store = mixed(rt.alloc())?;
+    let told = told(rt.alloc(), &mut store, EACH)?;
     assert_eq!(rt;
-        answer(&mut store, &Edit::RemoveLayer { layer: 3 }),
-        Some(5)
+        told.as_str(),
+        "2 3 4 5 6 7 8 9 10 11 12 13 14 15 16 17 18 "
     );
-    assert_eq!(rt; store.stamps(1), stamps(3, 0));
-    assert_eq!(rt; answer(&mut store, &layer(alloc, 3, None)?), Some(6));
-    assert_eq!(rt; store.stamps(1), stamps(3, 6));
+    assert_eq!(rt; seen(rt.alloc(), &store, 1)?.as_str(), "8 1 w 2 0 v 7 1 z ");
+    assert_eq!(rt;
+        seen(rt.alloc(), &store, 2)?.as_str(),
+        "1000000 2000000 - 4000000 "
+    );
     Ok(())
 }
 
 #[test]
-fn a_feature_is_put_in_once(rt: HostRuntime) -> Result<(), Fail> {
-    let alloc = rt.alloc();
-    let mut store = store(alloc)?;
-    let feature = feature(alloc, 1)?;
-    let edit = Edit::AddFeature { layer: 2, feature };
-    assert_eq!(rt; answer(&mut store, &edit), Some(5));
-    assert_eq!(rt; refusal(&mut store, &edit), Some(EditError::DuplicateId));
-    assert_eq!(rt; count(&store, 2)?, 1);
+fn an_input_stays_as_it_was_taken(rt: HostRuntime) -> Result<(), Fail> {
+    let mut store = mixed(rt.alloc())?;
+    let (Some(rows), Some(grid)) = (store.input(1)?, store.input(2)?) else {
+        return Err(Fail::from(AllocError));
+    };
+    drop(told(rt.alloc(), &mut store, EACH)?);
+    assert_eq!(rt; held(rt.alloc(), rows.value())?.as_str(), "1 1 x 2 1 y ");
+    assert_eq!(rt;
+        held(rt.alloc(), grid.value())?.as_str(),
+        "1000000 2000000 3000000 4000000 "
+    );
     Ok(())
 }
 
+// A mask that goes and comes again, with what is in it: its revision went from 1 by none to that of the edit.
 #[test]
-fn a_removed_layer_is_not_known(rt: HostRuntime) -> Result<(), Fail> {
-    let mut store = store(rt.alloc())?;
-    let edit = Edit::RemoveLayer { layer: 2 };
-    assert_eq!(rt; answer(&mut store, &edit), Some(5));
-    assert_eq!(rt; refusal(&mut store, &edit), Some(EditError::UnknownLayer));
-    assert_eq!(rt; store.version(), 5);
+fn a_mask_comes_again(rt: HostRuntime) -> Result<(), Fail> {
+    let mut store = store(rt.alloc(), TWO, SQUARES)?;
+    let script = concat!(
+        "remove-layer 3\nadd-layer 2 3 mask\n",
+        "add-feature 3 1 \"POLYGON((0 2,4 2,4 4,0 4,0 2))\"\nhide 3\nopacity 2 128\nopacity 9 10\n"
+    );
+    let told = told(rt.alloc(), &mut store, script)?;
+    assert_eq!(rt; told.as_str(), "2 3 4 5 6 UnknownLayer ");
+    assert_eq!(rt; store.stamps(1), stamps(1, 4));
     Ok(())
 }
