@@ -5,3 +5,4 @@ pub mod ScriptLemmas
 pub mod EnteredLemmas
 pub mod OthersLemmas
 pub mod WorkedPlays
+pub mod WriteLemmas

@@ -1,7 +1,8 @@
 //! Laws of sessions, each the clause of a call that does nothing.
 
 ghost use Rattle.cv_session.specs.Laws.{OneJournalFollows, AllowedIsPlanned, PlannedMayBe, EditsAreOfScript};
-ghost use Rattle.cv_session.specs.Laws.{ScriptAndTextTellJournal, OthersDoTasks, OthersMayGoOn};
+ghost use Rattle.cv_session.specs.Laws.{ScriptAndTextTellJournal, FilesAreWrites, OthersDoTasks};
+ghost use Rattle.cv_session.specs.Laws.{OthersMayGoOn};
 
 /// With caller 0 alone and memory enough, one journal follows a script, and one list of commands is refused.
 pub fn one_journal_follows()
@@ -26,6 +27,11 @@ pub fn edits_are_of_script()
 /// A script and a journal's text name one journal.
 pub fn script_and_text_tell_journal()
     ensures { ScriptAndTextTellJournal }
+{}
+
+/// A play of a script has written what the script, the legal journal and the refused commands say.
+pub fn files_are_writes()
+    ensures { FilesAreWrites }
 {}
 
 /// Each entry of a journal that follows a script is of caller 0, or of a task that another caller does.
