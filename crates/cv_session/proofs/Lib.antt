@@ -6,3 +6,5 @@ pub mod EnteredLemmas
 pub mod OthersLemmas
 pub mod WorkedPlays
 pub mod WriteLemmas
+pub mod HeldLemmas
+pub mod CoverLemmas

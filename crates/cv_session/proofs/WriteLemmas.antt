@@ -536,7 +536,7 @@ written_silent (overtakes t ts e o) = refl
 written_silent (ends w m e h) = refl
 written_silent (ends_badly w m e h) = refl
 
-state_silent : {a b : Play} → Silently a b → b.state ≡ a.state
+pub state_silent : {a b : Play} → Silently a b → b.state ≡ a.state
 state_silent (turns m x) = refl
 state_silent (refuses n rest why c e) = refl
 state_silent (begins n rest m c e f x) = refl
@@ -545,7 +545,7 @@ state_silent (overtakes t ts e o) = refl
 state_silent (ends w m e h) = refl
 state_silent (ends_badly w m e h) = refl
 
-state_next : (m : Mode) (d : Act) (a : Play) → (next_in m d a).state ≡ a.state
+pub state_next : (m : Mode) (d : Act) (a : Play) → (next_in m d a).state ≡ a.state
 state_next (Opens c views) d a = refl
 state_next Begins d a = state_through a.commands d a
   where

@@ -3,6 +3,7 @@
 ghost use Rattle.cv_session.specs.Laws.{OneJournalFollows, AllowedIsPlanned, PlannedMayBe, EditsAreOfScript};
 ghost use Rattle.cv_session.specs.Laws.{ScriptAndTextTellJournal, FilesAreWrites, OthersDoTasks};
 ghost use Rattle.cv_session.specs.Laws.{OthersMayGoOn};
+ghost use Rattle.cv_session.specs.HeldLaws.{HeldTasksAreOwed, AloneFindsTasks};
 
 /// With caller 0 alone and memory enough, one journal follows a script, and one list of commands is refused.
 pub fn one_journal_follows()
@@ -43,4 +44,14 @@ pub fn others_do_tasks()
 /// behind it.
 pub fn others_may_go_on()
     ensures { OthersMayGoOn }
+{}
+
+/// What caller 0 holds, whoever else does tasks, is its own to deliver and to finish, and each task once.
+pub fn held_tasks_are_owed()
+    ensures { HeldTasksAreOwed }
+{}
+
+/// Alone, caller 0 always finds a task while it waits for a job without end and holds none.
+pub fn alone_finds_tasks()
+    ensures { AloneFindsTasks }
 {}
