@@ -1,0 +1,66 @@
+use Rattle.std.proofs.Common.{◌≡◌, ◌∙◌, sym, subst, ap, refl, map, arith, ◌+◌, ◌≤◌, ◌<◌, Some, IsSomeAnd, slice_get, length, is_some, suc}
+use Rattle.cv_event.specs.declared.entry.Act.TheVariants as act
+use Rattle.cv_event.specs.Legality.{OfJob, Allows}
+use Rattle.cv_event.specs.States.{view_on, change_at}
+use Rattle.cv_store.specs.Stores.{project_of}
+use Rattle.cv_tables.specs.Rows.{owed, new_row}
+use Rattle.cv_tables.specs.Tabs.{Tab, Tables, tab_viewed}
+use Rattle.cv_desk.specs.Desks.{History, state, Notes, IsDesk, Holds, KeepJobs}
+use Rattle.cv_desk.specs.Answers.{FitsCanvas}
+use Rattle.cv_desk.proofs.BasisLemmas.{jobs_started_kept}
+use Rattle.cv_desk.proofs.KeepingLemmas.{noted, same_holds, view_holds, view_seen, start_holds, start_seen, started_rows}
+use Rattle.cv_desk.proofs.desk.Desk.note_start.Goals as goal
+
+pub invariant_of-self : goal.invariant_of-self
+invariant_of-self c =
+    let h : History = record {
+      opening = record {
+        project = project_of c.self.inside.opened.value;
+        canvases = map (λ (tab : Tab). tab.spec) c.self.inside.blank.value;
+      };
+      journal = c.self.inside.journal.entries;
+      spare = c.self.inside.journal.spare;
+      tables = record { store = c.self.inside.store; tabs = c.self.inside.canvases; rows = c.self.inside.jobs };
+    } in
+    let rows = c.start.new.self in
+    let a = act.Start c.args.canvas c.in-Ok.job in
+    let room = subst (λ n. owed n.tables.rows + 2 ≤ n.spare) (sym c.self.view_is) c.requires.room in
+    let view = subst (λ n. view_on (state n) c.args.canvas ≡ Some c.args.view) (sym c.self.view_is) c.requires.view in
+    let few = subst (λ n. length n.tables.rows < 4294967295) (sym c.self.view_is) c.requires.few in
+    let holds = subst (λ l. Holds (record h.tables { rows = l }) c.push.new.self.spare) (sym c.in-Ok.ensures.ok)
+    (start_holds h.tables h.spare c.push.new.self.spare c.args.canvas c.args.view c.len.ensures.kept.distinct c.push.ensures.spare room c.self.invariant.holds) in
+    let both = noted h a c.args.who c.push.new.self.spare (record h.tables { rows = rows }) c.push.new.self.entries c.self.invariant
+    c.push.ensures.entries (started_rows h c.args.who c.args.canvas c.in-Ok.job c.args.view view c.in-Ok.ensures.number few)
+    (start_seen h c.args.who c.args.canvas c.in-Ok.job c.args.view rows view c.in-Ok.ensures.ok) holds
+    (subst (KeepJobs h.tables.rows) (sym c.in-Ok.ensures.ok) (jobs_started_kept c.args.canvas (new_row c.args.canvas h.tables.store c.args.view) h.tables.rows)) in
+    both.0
+
+pub returns-in-Ok-clause-ok : goal.returns-in-Ok-clause-ok
+returns-in-Ok-clause-ok c =
+    let h : History = record {
+      opening = record {
+        project = project_of c.self.inside.opened.value;
+        canvases = map (λ (tab : Tab). tab.spec) c.self.inside.blank.value;
+      };
+      journal = c.self.inside.journal.entries;
+      spare = c.self.inside.journal.spare;
+      tables = record { store = c.self.inside.store; tabs = c.self.inside.canvases; rows = c.self.inside.jobs };
+    } in
+    let rows = c.start.new.self in
+    let a = act.Start c.args.canvas c.in-Ok.job in
+    let room = subst (λ n. owed n.tables.rows + 2 ≤ n.spare) (sym c.self.view_is) c.requires.room in
+    let view = subst (λ n. view_on (state n) c.args.canvas ≡ Some c.args.view) (sym c.self.view_is) c.requires.view in
+    let few = subst (λ n. length n.tables.rows < 4294967295) (sym c.self.view_is) c.requires.few in
+    let holds = subst (λ l. Holds (record h.tables { rows = l }) c.push.new.self.spare) (sym c.in-Ok.ensures.ok)
+    (start_holds h.tables h.spare c.push.new.self.spare c.args.canvas c.args.view c.len.ensures.kept.distinct c.push.ensures.spare room c.self.invariant.holds) in
+    let both = noted h a c.args.who c.push.new.self.spare (record h.tables { rows = rows }) c.push.new.self.entries c.self.invariant
+    c.push.ensures.entries (started_rows h c.args.who c.args.canvas c.in-Ok.job c.args.view view c.in-Ok.ensures.number few)
+    (start_seen h c.args.who c.args.canvas c.in-Ok.job c.args.view rows view c.in-Ok.ensures.ok) holds
+    (subst (KeepJobs h.tables.rows) (sym c.in-Ok.ensures.ok) (jobs_started_kept c.args.canvas (new_row c.args.canvas h.tables.store c.args.view) h.tables.rows)) in
+    let new : History = record {
+      opening = h.opening;
+      journal = c.push.new.self.entries;
+      spare = c.push.new.self.spare;
+      tables = record h.tables { rows = rows };
+    } in
+    subst (λ n. Notes n new c.args.who a) c.self.view_is both.1

@@ -1,0 +1,60 @@
+use Rattle.std.proofs.Common.{◌≡◌, ◌∙◌, sym, subst, ap, refl, map, arith, ◌+◌, ◌≤◌, ◌<◌, Some, IsSomeAnd, slice_get, length, is_some, suc}
+use Rattle.cv_event.specs.declared.entry.Act.TheVariants as act
+use Rattle.cv_event.specs.Legality.{OfJob, Allows}
+use Rattle.cv_event.specs.States.{view_on, change_at}
+use Rattle.cv_store.specs.Stores.{project_of}
+use Rattle.cv_tables.specs.Rows.{owed}
+use Rattle.cv_tables.specs.Tabs.{Tab, Tables, tab_viewed}
+use Rattle.cv_desk.specs.Desks.{History, state, Notes, IsDesk, Holds}
+use Rattle.cv_desk.specs.Answers.{FitsCanvas}
+use Rattle.cv_desk.proofs.BasisLemmas.{jobs_same}
+use Rattle.cv_desk.proofs.KeepingLemmas.{noted, same_holds, view_holds, view_seen, start_holds, start_seen, started_allowed}
+use Rattle.cv_desk.proofs.desk.Desk.note_view.Goals as goal
+
+pub invariant_of-self : goal.invariant_of-self
+invariant_of-self c =
+    let h : History = record {
+      opening = record {
+        project = project_of c.self.inside.opened.value;
+        canvases = map (λ (tab : Tab). tab.spec) c.self.inside.blank.value;
+      };
+      journal = c.self.inside.journal.entries;
+      spare = c.self.inside.journal.spare;
+      tables = record { store = c.self.inside.store; tabs = c.self.inside.canvases; rows = c.self.inside.jobs };
+    } in
+    let tabs = c.set_view.new.self in
+    let a = act.View c.args.canvas c.args.view in
+    let room = subst (λ n. owed n.tables.rows + 1 ≤ n.spare) (sym c.self.view_is) c.requires.room in
+    let allowed = subst (λ n. FitsCanvas (state n) c.args.canvas c.args.view) (sym c.self.view_is) c.requires.fits in
+    let holds = subst (λ l. Holds (record h.tables { tabs = l }) c.push.new.self.spare) (sym c.set_view.ensures)
+    (view_holds h.tables h.spare c.push.new.self.spare c.args.canvas c.args.view c.push.ensures.spare room c.self.invariant.holds) in
+    let both = noted h a c.args.who c.push.new.self.spare (record h.tables { tabs = tabs }) c.push.new.self.entries c.self.invariant
+    c.push.ensures.entries allowed (view_seen h c.args.who c.args.canvas c.args.view tabs c.set_view.ensures) holds (jobs_same h.tables.rows) in
+    both.0
+
+pub returns : goal.returns
+returns c =
+    let h : History = record {
+      opening = record {
+        project = project_of c.self.inside.opened.value;
+        canvases = map (λ (tab : Tab). tab.spec) c.self.inside.blank.value;
+      };
+      journal = c.self.inside.journal.entries;
+      spare = c.self.inside.journal.spare;
+      tables = record { store = c.self.inside.store; tabs = c.self.inside.canvases; rows = c.self.inside.jobs };
+    } in
+    let tabs = c.set_view.new.self in
+    let a = act.View c.args.canvas c.args.view in
+    let room = subst (λ n. owed n.tables.rows + 1 ≤ n.spare) (sym c.self.view_is) c.requires.room in
+    let allowed = subst (λ n. FitsCanvas (state n) c.args.canvas c.args.view) (sym c.self.view_is) c.requires.fits in
+    let holds = subst (λ l. Holds (record h.tables { tabs = l }) c.push.new.self.spare) (sym c.set_view.ensures)
+    (view_holds h.tables h.spare c.push.new.self.spare c.args.canvas c.args.view c.push.ensures.spare room c.self.invariant.holds) in
+    let both = noted h a c.args.who c.push.new.self.spare (record h.tables { tabs = tabs }) c.push.new.self.entries c.self.invariant
+    c.push.ensures.entries allowed (view_seen h c.args.who c.args.canvas c.args.view tabs c.set_view.ensures) holds (jobs_same h.tables.rows) in
+    let new : History = record {
+      opening = h.opening;
+      journal = c.push.new.self.entries;
+      spare = c.push.new.self.spare;
+      tables = record h.tables { tabs = tabs };
+    } in
+    subst (λ n. Notes n new c.args.who a) c.self.view_is both.1

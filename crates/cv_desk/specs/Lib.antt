@@ -1,0 +1,4 @@
+-- The definitions of the desk, in reading order.
+pub mod Desks
+pub mod Answers
+pub mod Laws
