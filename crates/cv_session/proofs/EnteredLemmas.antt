@@ -341,7 +341,7 @@ act_may s held command.Give d h = by_test (held == 0) h
     by_test true h = absurd cc
     by_test false h = absurd cc
 
-done_may : (s : State) (t : Task) (d : Act) → done_by s t ≡ Some d → MayDo t d
+pub done_may : (s : State) (t : Task) (d : Act) → done_by s t ≡ Some d → MayDo t d
 done_may s (Look j at) d h = of_fate (fate_at s j at) h
   where
     of_fate : (o : Option Fate) → option_map (act.Deliver j at) o ≡ Some d → (fate : Fate) × (d ≡ act.Deliver j at fate)
@@ -361,7 +361,7 @@ give_may : (ts : List Task) (a : Play) (d : Act) → planned_held ts a ≡ Some 
 give_may [] a d h = absurd cc
 give_may (t ∷ ts) a d h = done_may a.state t d h
 
-work_may : (w : Awaited) (ts : List Task) (a : Play) (d : Act) → planned_work w ts a ≡ Some d → MayWork w ts a d
+pub work_may : (w : Awaited) (ts : List Task) (a : Play) (d : Act) → planned_work w ts a ≡ Some d → MayWork w ts a d
 work_may w [] a d h = by_end (how a.known w.job) refl h
   where
     by_task : (o : Option Task) → option_map (claimed a.state) o ≡ Some d → IsClaim d

@@ -5,3 +5,6 @@ pub mod ScriptLemmas
 pub mod EnteredLemmas
 pub mod OthersLemmas
 pub mod WorkedPlays
+pub mod WriteLemmas
+pub mod HeldLemmas
+pub mod CoverLemmas

@@ -74,7 +74,7 @@ KnowsAll a = a.known ≡ a.state
 knows_silent : {a b : Play} → Silently a b → KnowsAll a → KnowsAll b
 knows_silent (turns m l) k = k
 knows_silent (refuses n rest why c e) k = refl
-knows_silent (begins n rest m c e l) k = k
+knows_silent (begins n rest m c e g l) k = k
 knows_silent (lets m t ts e l h) k = k
 knows_silent (overtakes t ts e o) k = k
 knows_silent (ends w m e h) k = refl

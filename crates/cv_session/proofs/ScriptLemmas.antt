@@ -1,5 +1,5 @@
 -- What plays do to a script: its edits are those of the journal, and its text tells the journal.
-use Rattle.std.proofs.Common.{◌≡◌, refl, ap, sym, ◌∙◌, subst, ◌≤◌, ℕ, suc, ◌+◌, Bool, true, false, ◌&&◌, if◌then◌else◌}
+use Rattle.std.proofs.Common.{◌≡◌, inl, inr, ⊎_elim, refl, ap, sym, ◌∙◌, subst, ◌≤◌, ℕ, suc, ◌+◌, Bool, true, false, ◌&&◌, if◌then◌else◌}
 use Rattle.std.proofs.Common.{List, [], ◌∷◌, ◌++◌, length, slice_get, Option, Some, None, is_some, option_map, option_to_list, arith, Result, Ok, Err, IsSomeAnd}
 use Rattle.std.specs.List.{AllByRecursion, cons_option}
 use Rattle.std.proofs.lemmas.List.{append-nil}
@@ -36,7 +36,7 @@ use Rattle.cv_session.specs.Follows.{Follows}
 use Rattle.cv_session.specs.Laws.{edit_in, edits_in, EditsAreOfScript, ScriptAndTextTellJournal}
 use Rattle.cv_session.specs.Entered.{IsClaim, IsViewed, MayAct}
 use Rattle.cv_session.proofs.EnteredLemmas.{act_may}
-use Rattle.cv_session.proofs.PlayLemmas.{line_of, IsSilent, Silently, turns, refuses, begins, lets, overtakes, ends, ends_badly, silently, same_some}
+use Rattle.cv_session.proofs.PlayLemmas.{line_of, IsLineOf, IsSilent, Silently, turns, refuses, begins, lets, overtakes, ends, ends_badly, silently, same_some}
 
 -- ---- acts that no command has: of tasks, and of the first views
 
@@ -85,7 +85,7 @@ pub record IsSame (a b : Play) : Type 0 where
   pub commands : b.commands ≡ a.commands
   pub refused : b.refused ≡ a.refused
   pub written : b.written ≡ a.written
-  pub line : line_of b.mode ≤ line_of a.mode
+  pub line : IsLineOf (line_of b.mode) (line_of a.mode)
 
 -- an entry is of the next command, or of none
 pub data Entering (a : Play) (d : Act) : Type 0 where
@@ -94,12 +94,12 @@ pub data Entering (a : Play) (d : Act) : Type 0 where
   by_task : IsPlain d → IsSame a (next d a) → Entering a d
 
 same_in : (m : Mode) (d : Act) (a : Play) → a.mode ≡ m → (m ≡ Begins → ⊥) → IsSame a (next_in m d (entered d a))
-same_in (Opens c views) d a e apart = record { commands = refl; refused = refl; written = refl; line = omega arith }
+same_in (Opens c views) d a e apart = record { commands = refl; refused = refl; written = refl; line = inl refl }
 same_in Begins d a e apart = absurd (apart refl)
-same_in GivesOne d a e apart = record { commands = refl; refused = refl; written = refl; line = omega arith }
-same_in (GivesAll w) d a e apart = record { commands = refl; refused = refl; written = refl; line = rw e (omega arith) }
-same_in (Works w) d a e apart = record { commands = refl; refused = refl; written = refl; line = rw e (omega arith) }
-same_in Closes d a e apart = record { commands = refl; refused = refl; written = refl; line = omega arith }
+same_in GivesOne d a e apart = record { commands = refl; refused = refl; written = refl; line = inl refl }
+same_in (GivesAll w) d a e apart = record { commands = refl; refused = refl; written = refl; line = inr (sym (ap line_of e)) }
+same_in (Works w) d a e apart = record { commands = refl; refused = refl; written = refl; line = inr (sym (ap line_of e)) }
+same_in Closes d a e apart = record { commands = refl; refused = refl; written = refl; line = inl refl }
 
 same_where : (m : Mode) (d : Act) (a : Play) → a.mode ≡ m → (m ≡ Begins → ⊥) → IsSame a (next d a)
 same_where m d a e apart = subst (λ (m : Mode). IsSame a (next_in m d (entered d a))) (sym e) (same_in m d a e apart)
@@ -163,7 +163,7 @@ failing a j h = failing_in a.mode a j refl h
 -- ---- edits
 
 -- what holds of what is there
-from_some : {A : Type 0} (P : A → Type 0) (o : Option A) (Q : Type 0) → IsSomeAnd o P → ((x : A) → P x → Q) → Q
+pub from_some : {A : Type 0} (P : A → Type 0) (o : Option A) (Q : Type 0) → IsSomeAnd o P → ((x : A) → P x → Q) → Q
 from_some P None Q h g = absurd h
 from_some P (Some x) Q h g = g x h
 
@@ -244,7 +244,7 @@ edits_silent : {a b : Play} → Silently a b → edits_in b.commands ≡ edits_i
 edits_silent (turns m l) = refl
 edits_silent {a} (refuses n rest why c e) =
     sym (edits_more n a.commands rest None c (no_edit_silent a.state (length a.held) n.command (subst IsSilent (sym e) tt)))
-edits_silent {a} (begins n rest m c e l) = sym (edits_more n a.commands rest None c (no_edit_silent a.state (length a.held) n.command e))
+edits_silent {a} (begins n rest m c e g l) = sym (edits_more n a.commands rest None c (no_edit_silent a.state (length a.held) n.command e))
 edits_silent (lets m t ts e l h) = refl
 edits_silent (overtakes t ts e o) = refl
 edits_silent (ends w m e h) = refl
@@ -303,7 +303,7 @@ read_next Closes d a = refl
 read_silent : {a b : Play} → Silently a b → b.read ≡ a.read
 read_silent (turns m l) = refl
 read_silent (refuses n rest why c e) = refl
-read_silent (begins n rest m c e l) = refl
+read_silent (begins n rest m c e g l) = refl
 read_silent (lets m t ts e l h) = refl
 read_silent (overtakes t ts e o) = refl
 read_silent (ends w m e h) = refl
@@ -351,15 +351,18 @@ lines_later m n (x ∷ xs) l f = ((f.0.0, omega (arith, l, f.0.1)), lines_later 
 split_lines : (n : Numbered) (cs rest : List Numbered) → cs ≡ n ∷ rest → AllByRecursion IsInScript cs → IsInScript n × AllByRecursion IsInScript rest
 split_lines n cs rest e f = subst (AllByRecursion IsInScript) e f
 
+low : (x y : ℕ) → IsLineOf x y → y ≤ 100000 → x ≤ 100000
+low x y l h = ⊎_elim (λ e. omega (arith, e)) (λ e. omega (arith, e, h)) l
+
 fits_silent : {a b : Play} → Silently a b → Fits a → Fits b
-fits_silent {a} (turns m l) f = record { refused = f.refused; commands = f.commands; line = omega (arith, l, f.line) }
+fits_silent {a} (turns m l) f = record { refused = f.refused; commands = f.commands; line = low _ _ l f.line }
 fits_silent {a} (refuses n rest why c e) f =
     let cs = split_lines n a.commands rest c f.commands in
     record { refused = lines_append a.read a.refused _ f.refused ((cs.0, omega arith), tt); commands = cs.1; line = f.line }
-fits_silent {a} (begins n rest m c e l) f =
+fits_silent {a} (begins n rest m c e g l) f =
     let cs = split_lines n a.commands rest c f.commands in
-    record { refused = f.refused; commands = cs.1; line = omega (arith, l, cs.0) }
-fits_silent {a} (lets m t ts e l h) f = record { refused = f.refused; commands = f.commands; line = omega (arith, l, f.line) }
+    record { refused = f.refused; commands = cs.1; line = low _ _ l cs.0 }
+fits_silent {a} (lets m t ts e l h) f = record { refused = f.refused; commands = f.commands; line = low _ _ l f.line }
 fits_silent {a} (overtakes t ts e o) f = record { refused = f.refused; commands = f.commands; line = f.line }
 fits_silent {a} (ends w m e h) f = record { refused = f.refused; commands = f.commands; line = omega arith }
 fits_silent {a} (ends_badly w m e h) f = record {
@@ -400,7 +403,7 @@ fits_same : (m : ℕ) (a b : Play) → IsSame a b → b.read ≡ suc a.read → 
 fits_same m a b s r f = record {
   refused = subst (λ (xs : List Refused). AllByRecursion (IsLine b.read) xs) (sym s.refused) (lines_later a.read b.read a.refused (omega (arith, r)) f.refused);
   commands = subst (AllByRecursion IsInScript) (sym s.commands) f.commands;
-  line = omega (arith, s.line, f.line);
+  line = low _ _ s.line f.line;
 }
 
 fits_entered : (a : Play) (d : Act) → Entering a d → Fits a → Fits (next d a)

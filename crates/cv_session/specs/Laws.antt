@@ -16,8 +16,9 @@ use Rattle.cv_script.specs.declared.script.Command.{Command}
 use Rattle.cv_script.specs.declared.script.Command.TheVariants as command
 use Rattle.cv_script.specs.declared.script.Numbered.{Numbered}
 use Rattle.cv_script.specs.Scripts.{IsScript}
-use Rattle.cv_session.specs.Plays.{Play, planned, is_of_worker}
-use Rattle.cv_session.specs.Follows.{Follows, FollowsBefore}
+use Rattle.cv_session.specs.Plays.{Play, planned, is_of_worker, Plays}
+use Rattle.cv_session.specs.Follows.{at_first, Follows, FollowsBefore}
+use Rattle.cv_session.specs.Writes.{writes}
 use Rattle.cv_session.specs.Entered.{May}
 
 -- ---- one result
@@ -75,6 +76,17 @@ ScriptAndTextTellJournal =
     → IsLong (length xs) → IsLong (length ys) → IsLong k → IsLong l → IsLegal o xs → IsLegal o ys
     → Follows o views script m xs p → Follows o views script n ys q
     → journal_text xs p k ≡ journal_text ys q l → (xs ≡ ys) × (p ≡ q) × (k ≡ l)
+
+-- ---- files
+
+-- a play of a script has written what the script, the legal journal and the refused commands say, also where
+-- commands are left
+abbrev pub FilesAreWrites : Type 0
+FilesAreWrites =
+    (o : Opening) (views : List (Option PixelGrid)) (script : List Numbered) (workers : ℕ)
+    (journal : List Entry) (last : Play) → IsScript script → IsLegal o journal
+    → Plays workers (at_first o views script) journal last
+    → last.written ≡ writes o script journal last.refused
 
 -- ---- other callers
 

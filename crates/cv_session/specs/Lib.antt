@@ -5,3 +5,4 @@ pub mod Follows
 pub mod Writes
 pub mod Entered
 pub mod Laws
+pub mod HeldLaws

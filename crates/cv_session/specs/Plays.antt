@@ -6,10 +6,10 @@
 -- Source: this project's own.
 use Rattle.std.specs.Prelude.{◌≡◌, ◌≤◌, ℕ, suc, ◌==◌, nat_eq, nat_lt, Bool, true, false, not, ◌&&◌, if◌then◌else◌, List, [], ◌∷◌, ◌++◌}
 use Rattle.std.specs.Prelude.{length, drop, Option, Some, None, option_map, option_and_then, option_to_list, is_some}
-use Rattle.std.specs.List.{list_any, range_with_len}
-use Rattle.std.specs.Option.{option_map_or}
+use Rattle.std.specs.List.{list_any}
 use Rattle.cv_model.specs.declared.colour.Rgb.{Rgb}
 use Rattle.cv_model.specs.Views.{PixelGrid}
+use Rattle.cv_model.specs.Pictures.{picture}
 use Rattle.cv_model.specs.Rasters.{Raster, ppm_of}
 use Rattle.cv_event.specs.declared.entry.Act.{Act}
 use Rattle.cv_event.specs.declared.entry.Act.TheVariants as act
@@ -21,9 +21,9 @@ use Rattle.cv_event.specs.declared.refused.Reason.TheVariants as reason
 use Rattle.cv_event.specs.declared.refused.Refused.{Refused}
 use Rattle.cv_event.specs.declared.slot.Task.{Task}
 use Rattle.cv_event.specs.declared.slot.Task.TheVariants.{Look, Compose}
-use Rattle.cv_event.specs.States.{Job, State, job_in, did}
+use Rattle.cv_event.specs.States.{Taken, State, did}
 use Rattle.cv_event.specs.Legality.{how, task}
-use Rattle.cv_event.specs.Histories.{image}
+use Rattle.cv_event.specs.Histories.{taken, image}
 use Rattle.cv_event.specs.Lines.{listed_slots}
 use Rattle.cv_script.specs.declared.script.Command.{Command}
 use Rattle.cv_script.specs.declared.script.Command.TheVariants as command
@@ -245,14 +245,14 @@ refusals line seen (act.Edit e (Some error)) =
     option_to_list (option_map (λ why. record { line = line; seen = seen; reason = why }) (edit_reason error))
 refusals line seen _ = []
 
--- all slots of a job
-abbrev pub all_slots : State → ℕ → List ℕ
-all_slots s j = option_map_or (λ (job : Job). range_with_len 0 (length job.slots)) (job_in s.jobs j) []
+-- the picture of all slots of the project at the view that a job took
+abbrev pub whole_picture : State → ℕ → Option (Raster Rgb)
+whole_picture s j = option_map (λ (t : Taken). picture t.project t.view) (taken s j)
 
 -- the picture that an act shows: of a job's ready slots, or of all of a job's slots
 abbrev pub picture_by : State → Act → Option (Raster Rgb)
 picture_by s (act.Preview j ready) = image s j (listed_slots ready)
-picture_by s (act.Save c j) = image s j (all_slots s j)
+picture_by s (act.Save c j) = whole_picture s j
 picture_by s _ = None
 
 -- the name of the file that a command writes

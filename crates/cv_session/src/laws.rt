@@ -1,7 +1,9 @@
 //! Laws of sessions, each the clause of a call that does nothing.
 
 ghost use Rattle.cv_session.specs.Laws.{OneJournalFollows, AllowedIsPlanned, PlannedMayBe, EditsAreOfScript};
-ghost use Rattle.cv_session.specs.Laws.{ScriptAndTextTellJournal, OthersDoTasks, OthersMayGoOn};
+ghost use Rattle.cv_session.specs.Laws.{ScriptAndTextTellJournal, FilesAreWrites, OthersDoTasks};
+ghost use Rattle.cv_session.specs.Laws.{OthersMayGoOn};
+ghost use Rattle.cv_session.specs.HeldLaws.{HeldTasksAreOwed, AloneFindsTasks};
 
 /// With caller 0 alone and memory enough, one journal follows a script, and one list of commands is refused.
 pub fn one_journal_follows()
@@ -28,6 +30,11 @@ pub fn script_and_text_tell_journal()
     ensures { ScriptAndTextTellJournal }
 {}
 
+/// A play of a script has written what the script, the legal journal and the refused commands say.
+pub fn files_are_writes()
+    ensures { FilesAreWrites }
+{}
+
 /// Each entry of a journal that follows a script is of caller 0, or of a task that another caller does.
 pub fn others_do_tasks()
     ensures { OthersDoTasks }
@@ -37,4 +44,14 @@ pub fn others_do_tasks()
 /// behind it.
 pub fn others_may_go_on()
     ensures { OthersMayGoOn }
+{}
+
+/// What caller 0 holds, whoever else does tasks, is its own to deliver and to finish, and each task once.
+pub fn held_tasks_are_owed()
+    ensures { HeldTasksAreOwed }
+{}
+
+/// Alone, caller 0 always finds a task while it waits for a job without end and holds none.
+pub fn alone_finds_tasks()
+    ensures { AloneFindsTasks }
 {}
