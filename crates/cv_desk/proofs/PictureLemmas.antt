@@ -4,7 +4,7 @@ use Rattle.std.proofs.Common.{List, [], ◌∷◌, map, filter, find, reverse, O
 use Rattle.std.specs.List.{AllByRecursion, IsDistinct, list_any}
 use Rattle.std.proofs.lemmas.Bool.Decides.{nat_tests}
 use Rattle.std.proofs.lemmas.List.{reverse-append}
-use Rattle.cv_model.specs.Layers.{Layer, Project, is_layer, is_slot, parts, parts_among, slots}
+use Rattle.cv_model.specs.Layers.{Layer, is_layer, is_slot, parts, parts_among, slots}
 use Rattle.cv_model.specs.Paintings.{Painting, composed}
 use Rattle.cv_model.specs.Pictures.{picture, picture_with}
 use Rattle.cv_model.specs.Views.{PixelGrid}

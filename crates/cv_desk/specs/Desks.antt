@@ -4,7 +4,6 @@
 -- rules are this project's own.
 use Rattle.std.specs.Prelude.{◌≡◌, ◌≤◌, ◌++◌, ◌∷◌, [], ℕ, false, nat_eq, List, map, take, length, Some, IfSome}
 use Rattle.std.specs.List.{AllByRecursion, IsDistinct}
-use Rattle.cv_model.specs.declared.project.CanvasSpec.{CanvasSpec}
 use Rattle.cv_model.specs.Layers.{Opening, slots}
 use Rattle.cv_model.specs.Paintings.{Painting}
 use Rattle.cv_model.specs.Views.{PixelGrid}
