@@ -24,7 +24,7 @@ use Rattle.cv_desk.specs.Laws.{Call, IsCall, AreCalls, left_by, entries_of, Call
 use Rattle.cv_desk.specs.Laws.{present, IsOf, ShowsLast, ShowsCanvas, ShowsJob, DesksAreKnown}
 use Rattle.cv_desk.proofs.SeenLemmas.{job_seen}
 use Rattle.cv_desk.proofs.KeepingLemmas.{legal_more, row_kept}
-use Rattle.cv_desk.proofs.PictureLemmas.{ready_picture, whole_picture, slots_are}
+use Rattle.cv_desk.proofs.PictureLemmas.{ready_picture, whole_picture, listed_picture, slots_are}
 
 -- ---- a list of calls
 
@@ -108,7 +108,7 @@ shows_canvas h kept c tab there =
     by : (o : Option PublishedJob) → published_on (present h) c ≡ option_map taken_in o → IfSome o (λ last. IsWhole last.row)
         → IfSome o (ShowsLast (present h) c)
     by None is whole = tt
-    by (Some last) is whole = record { taken = is; picture = whole_picture last.row whole }
+    by (Some last) is whole = record { taken = is; picture = whole_picture last.row whole; listed = listed_picture last.row whole }
 
 shows_job : (h : History) → IsDesk h → (j : ℕ) (row : Row) → row_in h.tables.rows j ≡ Some row → ShowsJob h j row
 shows_job h kept j row there =

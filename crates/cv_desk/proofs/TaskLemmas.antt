@@ -1,6 +1,7 @@
 -- What comes of a task: of a look that hits or misses, of a delivery that a cache takes, and of a composition.
 use Rattle.std.proofs.Common.{◌≡◌, ◌∙◌, sym, ap, refl, subst, ℕ, zero, suc, ◌+◌, ◌≤◌, Bool, true, false, not, ◌&&◌, List, [], ◌∷◌, ◌++◌}
 use Rattle.std.proofs.Common.{map, fold, Option, Some, None, slice_get, option_map, option_and_then, IsSomeAnd, is_some, arith, if◌then◌else◌}
+use Rattle.std.specs.Prelude.{Result, Ok, Err, OnErr}
 use Rattle.std.specs.List.{AllByRecursion, list_any}
 use Rattle.std.specs.Option.{option_map_or}
 use Rattle.std.proofs.lemmas.Bool.{false≢true}
@@ -535,3 +536,18 @@ delivered_slot h who j at painted fate keeps had told =
     has_slot h.tables.rows j at q.0 q.1
     (λ (row : Row) (x : Slot). (x.standing ≡ Missed who) × IsPaintingOf painted row x × (fate_of (state h) (job_of row) x ≡ fate)) q.2 q.3
     (q.4.0, (live, q.4.1 live), f)
+
+-- what wants memory is to be stored
+pub stored_slot : (h : History) (who j at : ℕ) (painted : Painting)
+    → HasSlot h.tables.rows j at
+    (λ (row : Row) (x : Slot). (x.standing ≡ Missed who) × (row.ended ≡ None → painting_of row.store row.view x ≡ Some painted))
+    → ((row : Row) (x : Slot) → row_in h.tables.rows j ≡ Some row → slice_get row.slots at ≡ Some x → fate_of (state h) (job_of row) x ≡ Stored)
+    → HasSlot h.tables.rows j at (λ (row : Row) (x : Slot). fate_of (state h) (job_of row) x ≡ Stored)
+stored_slot h who j at painted had told =
+    let q = slot_of h.tables.rows j at
+    (λ (row : Row) (x : Slot). (x.standing ≡ Missed who) × (row.ended ≡ None → painting_of row.store row.view x ≡ Some painted)) had in
+    has_slot h.tables.rows j at q.0 q.1 (λ (row : Row) (x : Slot). fate_of (state h) (job_of row) x ≡ Stored) q.2 q.3 (told q.0 q.1 q.2 q.3)
+
+pub refusal_says : {T E : Type 0} (r : Result T E) (P : Type 0) → P → OnErr r P
+refusal_says (Ok t) P p = tt
+refusal_says (Err e) P p = p

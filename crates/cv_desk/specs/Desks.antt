@@ -91,8 +91,9 @@ pub record Notes (old new : History) (who : ℕ) (a : Act) : Type 0 where
   pub allowed : Allows (state old) who a
   pub jobs : KeepJobs old.tables.rows new.tables.rows
 
--- nothing was put, and nothing changed but the places set aside
+-- nothing was put, and nothing changed, but that more places may be set aside
 pub record Stays (old new : History) : Type 0 where
   pub opening : new.opening ≡ old.opening
   pub journal : new.journal ≡ old.journal
   pub tables : new.tables ≡ old.tables
+  pub spare : old.spare ≤ new.spare
