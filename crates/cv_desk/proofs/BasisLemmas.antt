@@ -1,5 +1,5 @@
 -- What of a job never changes.
-use Rattle.std.proofs.Common.{◌≡◌, ◌∙◌, sym, ap, refl, ℕ, zero, suc, ◌==◌, ◌≤◌, Bool, true, false, List, [], ◌∷◌, ◌++◌, map}
+use Rattle.std.proofs.Common.{◌≡◌, ◌∙◌, sym, ap, refl, ℕ, zero, suc, ◌==◌, Bool, true, false, List, [], ◌∷◌, ◌++◌, map}
 use Rattle.std.proofs.Common.{Option, Some, None, is_some, slice_get, length, take, take_all, option_map, subst, IsSomeAnd, arith, if◌then◌else◌}
 use Rattle.std.proofs.lemmas.List.{length-map, map-append}
 use Rattle.std.proofs.lemmas.Option.{slice_get-map}
@@ -11,7 +11,7 @@ use Rattle.cv_event.specs.declared.entry.How.{How}
 use Rattle.cv_event.specs.declared.entry.How.TheVariants.{Cancelled}
 use Rattle.cv_event.specs.declared.slot.Slot.{Slot}
 use Rattle.cv_event.specs.declared.slot.Standing.{Standing}
-use Rattle.cv_event.specs.States.{change_at, slot_stands, slot_edited}
+use Rattle.cv_event.specs.States.{change_at, slot_stands}
 use Rattle.cv_tables.specs.Rows.{Row, row_in, change_row, row_ended, row_cancelled, row_stands, row_composed, row_edited, slots_edited}
 use Rattle.cv_tables.specs.Rows.{slot_layer, HasSlot, painting_from, painting_of, whole_of}
 use Rattle.cv_desk.specs.Answers.{IsPiece}

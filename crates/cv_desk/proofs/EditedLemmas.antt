@@ -6,7 +6,7 @@ use Rattle.std.specs.Option.{option_map_or}
 use Rattle.cv_model.specs.declared.edit.Edit.{Edit}
 use Rattle.cv_model.specs.declared.edit.EditError.{EditError}
 use Rattle.cv_model.specs.declared.edit.EditError.TheVariants.{UnknownLayer, UnknownFeature, WrongKind, DuplicateId, Limit, BadPlace, NoMemory}
-use Rattle.cv_model.specs.Edits.{touched, touches_any, verdict, step}
+use Rattle.cv_model.specs.Edits.{touched, touches_any, verdict}
 use Rattle.cv_model.specs.Layers.{Core, Project, core_in, parts_among, deps, deps_of}
 use Rattle.cv_model.specs.Paintings.{Input, Painting}
 use Rattle.cv_store.specs.Answers.{IsEdited, told_by}
@@ -19,7 +19,7 @@ use Rattle.cv_event.specs.declared.entry.How.{How}
 use Rattle.cv_event.specs.declared.slot.Slot.{Slot}
 use Rattle.cv_event.specs.States.{Cached, State, did, stays, slot_edited, canvas_edited}
 use Rattle.cv_event.proofs.PresentLemmas.{all_map}
-use Rattle.cv_tables.specs.Rows.{Row, input_of, slot_layer, WhileLive, slots_edited, row_edited, missed_in, missed_weight, end_weight, weight, owed}
+use Rattle.cv_tables.specs.Rows.{Row, WhileLive, slots_edited, row_edited, missed_in, missed_weight, end_weight, weight, owed}
 use Rattle.cv_tables.specs.Tabs.{Tab, Tables, cached_of, canvas_of, left_by, tab_edited, state_of}
 use Rattle.cv_desk.specs.Desks.{History, state, IsPresent, IsWhole, IsCurrent, IsFresh, AreFresh, Holds, IsDesk, Notes, Stays, KeepJobs}
 use Rattle.cv_desk.specs.Answers.{EditAnswer, EditNotes}

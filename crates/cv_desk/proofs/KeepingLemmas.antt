@@ -5,13 +5,13 @@ use Rattle.std.specs.List.{AllByRecursion, IsDistinct}
 use Rattle.std.proofs.lemmas.List.{length-map}
 use Rattle.std.proofs.lemmas.List.Sums.{fold-append}
 use Rattle.std.specs.Option.{option_or, option_map_or}
-use Rattle.cv_model.specs.Layers.{Opening, Layer, slots}
+use Rattle.cv_model.specs.Layers.{Layer, slots}
 use Rattle.cv_model.specs.Views.{PixelGrid}
 use Rattle.cv_event.specs.declared.entry.Act.TheVariants as act
 use Rattle.cv_event.specs.declared.entry.Act.{Act}
 use Rattle.cv_event.specs.declared.entry.Entry.{Entry}
 use Rattle.cv_event.specs.declared.entry.How.{How}
-use Rattle.cv_event.specs.declared.entry.How.TheVariants.{Cancelled, NoMemory, Finished}
+use Rattle.cv_event.specs.declared.entry.How.TheVariants.{Cancelled, Finished}
 use Rattle.cv_event.specs.States.{Job, State, change_at, change_job, job_in, with_end, did, after, begin, replay}
 use Rattle.cv_event.specs.declared.entry.Fate.{Fate}
 use Rattle.cv_event.specs.declared.slot.Slot.{Slot}
@@ -20,7 +20,7 @@ use Rattle.cv_event.specs.declared.slot.Standing.TheVariants.{Missed, Lost}
 use Rattle.cv_event.specs.States.{keeps_cache, new_slot, started, view_on, slot_stands, stands_at, publishes, canvases_finished}
 use Rattle.cv_event.specs.Legality.{OfJob, Allows, LegalFrom, IsLegal, fate_of}
 use Rattle.cv_event.proofs.PresentLemmas.{all_change, all_map, all_more, all_at}
-use Rattle.cv_store.specs.Stores.{StoreParts, project_of, accepted, id_of}
+use Rattle.cv_store.specs.Stores.{StoreParts, project_of, id_of}
 use Rattle.cv_tables.specs.Rows.{Row, job_of, row_in, change_row, row_ended, owed, weight, WhileLive}
 use Rattle.cv_tables.specs.Rows.{row_cancelled, new_row, missed_in, missed_weight, is_missed, end_weight, row_stands, slot_layer, layer_id, HasSlot}
 use Rattle.cv_tables.specs.Tabs.{Tab, Tables, canvas_of, tab_viewed, tab_publishes, state_of}

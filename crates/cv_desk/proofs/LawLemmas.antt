@@ -1,31 +1,30 @@
 -- The laws of the desk.
-use Rattle.std.proofs.Common.{◌≡◌, ◌∙◌, sym, ap, refl, subst, ℕ, List, [], ◌∷◌, ◌++◌, map, fold, Option, Some, None, option_map}
-use Rattle.std.proofs.Common.{option_and_then, slice_get, length, IfSome}
-use Rattle.std.specs.List.{AllByRecursion, filter_map}
+use Rattle.std.proofs.Common.{◌≡◌, ◌∙◌, sym, ap, refl, subst, ℕ, List, [], ◌∷◌, ◌++◌, Option, Some, None, option_map}
+use Rattle.std.proofs.Common.{option_and_then, slice_get, IfSome}
+use Rattle.std.specs.List.{AllByRecursion}
 use Rattle.std.specs.Option.{option_map_or}
 use Rattle.std.proofs.lemmas.List.{append_assoc, append-nil}
 use Rattle.std.proofs.lemmas.List.Sums.{fold-append}
 use Rattle.std.proofs.lemmas.Option.{slice_get-map}
-use Rattle.cv_model.specs.Edits.{project_at}
-use Rattle.cv_model.specs.Layers.{Parts, Project, parts}
+use Rattle.cv_model.specs.Layers.{Parts, parts}
 use Rattle.cv_model.specs.Paintings.{Input, Painting}
-use Rattle.cv_store.specs.Stores.{StoreParts, project_of, input_in, input_from}
+use Rattle.cv_store.specs.Stores.{StoreParts, project_of, input_from}
 use Rattle.cv_cache.specs.Caches.{painted_id}
 use Rattle.cv_event.specs.declared.entry.Entry.{Entry}
 use Rattle.cv_event.specs.States.{Canvas, State, job_in, after, begin, replay}
 use Rattle.cv_event.specs.Legality.{Allows, IsLegal}
-use Rattle.cv_event.specs.Histories.{edits, cached}
+use Rattle.cv_event.specs.Histories.{cached}
 use Rattle.cv_event.specs.ShownLaws.{published_on}
 use Rattle.cv_event.proofs.PresentLemmas.{all_same, all_at}
 use Rattle.cv_event.proofs.TakenLemmas.{project_is_of_edits}
 use Rattle.cv_tables.specs.Rows.{Row, job_of, row_in}
-use Rattle.cv_tables.specs.Tabs.{Tab, PublishedJob, cached_of, taken_in, canvas_of}
-use Rattle.cv_desk.specs.Desks.{History, state, Notes, Stays, IsPresent, IsWhole, IsCurrent, IsDesk}
-use Rattle.cv_desk.specs.Laws.{Call, IsCall, AreCalls, left_by, entries_of, IsOpened, IsHistory, CallsMakeHistory}
-use Rattle.cv_desk.specs.Laws.{present, IsOf, ShowsLast, ShowsCanvas, ShowsJob, IsKnown, DesksAreKnown}
+use Rattle.cv_tables.specs.Tabs.{Tab, PublishedJob, taken_in, canvas_of}
+use Rattle.cv_desk.specs.Desks.{History, state, IsPresent, IsWhole, IsCurrent, IsDesk}
+use Rattle.cv_desk.specs.Laws.{Call, IsCall, AreCalls, left_by, entries_of, CallsMakeHistory}
+use Rattle.cv_desk.specs.Laws.{present, IsOf, ShowsLast, ShowsCanvas, ShowsJob, DesksAreKnown}
 use Rattle.cv_desk.proofs.SeenLemmas.{job_seen}
 use Rattle.cv_desk.proofs.KeepingLemmas.{legal_more, row_kept}
-use Rattle.cv_desk.proofs.PictureLemmas.{ready_picture, whole_picture, slots_are}
+use Rattle.cv_desk.proofs.PictureLemmas.{ready_picture, whole_picture, listed_picture, slots_are}
 
 -- ---- a list of calls
 
@@ -109,7 +108,7 @@ shows_canvas h kept c tab there =
     by : (o : Option PublishedJob) → published_on (present h) c ≡ option_map taken_in o → IfSome o (λ last. IsWhole last.row)
         → IfSome o (ShowsLast (present h) c)
     by None is whole = tt
-    by (Some last) is whole = record { taken = is; picture = whole_picture last.row whole }
+    by (Some last) is whole = record { taken = is; picture = whole_picture last.row whole; listed = listed_picture last.row whole }
 
 shows_job : (h : History) → IsDesk h → (j : ℕ) (row : Row) → row_in h.tables.rows j ≡ Some row → ShowsJob h j row
 shows_job h kept j row there =

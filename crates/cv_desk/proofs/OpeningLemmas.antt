@@ -1,5 +1,5 @@
 -- A desk as it is opened.
-use Rattle.std.proofs.Common.{◌≡◌, ◌∙◌, sym, ap, refl, subst, ℕ, ◌-◌, ◌≤◌, List, [], ◌∷◌, map, arith, None}
+use Rattle.std.proofs.Common.{◌≡◌, sym, ap, refl, subst, ℕ, ◌-◌, List, [], ◌∷◌, map, arith}
 use Rattle.std.specs.List.{AllByRecursion}
 use Rattle.cv_model.specs.declared.project.CanvasSpec.{CanvasSpec}
 use Rattle.cv_store.specs.Stores.{StoreParts, project_of}

@@ -1,5 +1,5 @@
 -- The painted layers in a canvas's cache, and those that a job's slots are painted from.
-use Rattle.std.proofs.Common.{◌≡◌, ◌∙◌, sym, ap, refl, subst, ℕ, zero, suc, ◌==◌, nat_eq, Bool, true, false, not, ◌&&◌, ◌||◌}
+use Rattle.std.proofs.Common.{◌≡◌, ◌∙◌, sym, ap, refl, subst, ℕ, zero, suc, ◌==◌, nat_eq, Bool, true, false, ◌&&◌, ◌||◌}
 use Rattle.std.proofs.Common.{cond, List, [], ◌∷◌, ◌++◌, map, find, take, Option, Some, None, slice_get, option_map, arith}
 use Rattle.std.proofs.Common.{option_to_list, if◌then◌else◌}
 use Rattle.std.specs.List.{AllByRecursion, IsDistinct, list_any}
@@ -8,23 +8,22 @@ use Rattle.std.proofs.lemmas.Bool.Decides.{nat_tests, Decides-int_eq}
 use Rattle.std.proofs.lemmas.Bool.{eqb-true, false≢true}
 use Rattle.cv_model.specs.Paintings.{Input, Painting, Stamp}
 use Rattle.cv_model.specs.Views.{PixelGrid}
-use Rattle.cv_model.specs.Pans.{are_alike}
 use Rattle.cv_store.specs.Stores.{StoreParts, input_in}
-use Rattle.cv_cache.specs.Caches.{painted_id, is_of as is_painting, drop_first as drop_painting, to_front as paintings_front}
-use Rattle.cv_cache.specs.Caches.{put_front as paintings_put, Serves}
+use Rattle.cv_cache.specs.Caches.{painted_id, is_of as is_painting, drop_first as drop_painting}
+use Rattle.cv_cache.specs.Caches.{Serves}
 use Rattle.cv_event.specs.declared.slot.Slot.{Slot}
-use Rattle.cv_event.specs.States.{Cached, Canvas}
+use Rattle.cv_event.specs.States.{Canvas}
 use Rattle.cv_event.specs.Legality.{is_view, is_image}
 use Rattle.cv_event.specs.Histories.{cached}
 use Rattle.cv_event.specs.ViewLaws.{layer_of}
 use Rattle.cv_event.proofs.DistinctLemmas.{cached_layers_are_distinct}
 use Rattle.cv_event.proofs.PanLemmas.{view_same}
-use Rattle.cv_event.proofs.PresentLemmas.{all_at, both_true}
+use Rattle.cv_event.proofs.PresentLemmas.{all_at}
 use Rattle.cv_tables.specs.Rows.{Row, row_in, input_of, painting_from, painting_of, WhileLive}
 use Rattle.cv_tables.specs.Tabs.{Tab, Tables, cached_of, canvas_of, cache_of, tab_served, tab_stored}
 use Rattle.cv_tables.proofs.RowLemmas.{input_id}
 use Rattle.cv_desk.proofs.KeepingLemmas.{row_kept}
-use Rattle.cv_desk.specs.Desks.{History, state, IsPresent, IsCurrent, IsFresh, AreFresh, Holds, IsDesk}
+use Rattle.cv_desk.specs.Desks.{History, IsPresent, IsCurrent, IsFresh, AreFresh, Holds, IsDesk}
 
 -- ---- lists
 

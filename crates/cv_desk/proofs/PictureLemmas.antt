@@ -1,10 +1,10 @@
 -- What is composed of a job is the picture of its project.
 use Rattle.std.proofs.Common.{◌≡◌, ◌∙◌, sym, ap, refl, subst, ℕ, zero, suc, ◌+◌, ◌<◌, ◌==◌, nat_eq, Bool, true, false, cond, ◌||◌}
-use Rattle.std.proofs.Common.{List, [], ◌∷◌, map, filter, find, reverse, Option, Some, None, option_map, slice_get, IsSomeAnd, arith, if◌then◌else◌}
-use Rattle.std.specs.List.{AllByRecursion, IsDistinct, list_any}
+use Rattle.std.proofs.Common.{List, [], ◌∷◌, map, filter, find, reverse, Option, Some, None, option_map, slice_get, IsSomeAnd, length, arith, if◌then◌else◌}
+use Rattle.std.specs.List.{AllByRecursion, IsDistinct, list_any, range_with_len}
 use Rattle.std.proofs.lemmas.Bool.Decides.{nat_tests}
 use Rattle.std.proofs.lemmas.List.{reverse-append}
-use Rattle.cv_model.specs.Layers.{Layer, Project, is_layer, is_slot, parts, parts_among, slots}
+use Rattle.cv_model.specs.Layers.{Layer, is_layer, is_slot, parts, parts_among, slots}
 use Rattle.cv_model.specs.Paintings.{Painting, composed}
 use Rattle.cv_model.specs.Pictures.{picture, picture_with}
 use Rattle.cv_model.specs.Views.{PixelGrid}
@@ -168,6 +168,46 @@ is_listed (y ∷ ys) k (suc i) x is =
 from_zero : (i : ℕ) → 0 + i ≡ i
 from_zero i = omega arith
 
+-- all slots are listed
+all_listed : (xs : List Slot) (k i : ℕ) (x : Slot) → slice_get xs i ≡ Some x
+    → list_any (nat_eq (k + i)) (range_with_len k (length xs)) ≡ true
+all_listed [] k i x is = absurd cc
+all_listed (y ∷ ys) k zero x is = ap (λ b. b || list_any (nat_eq (k + 0)) (range_with_len (k + 1) (length ys))) (same k)
+  where
+    same : (k : ℕ) → nat_eq (k + 0) k ≡ true
+    same k = grind (arith, nat_tests)
+all_listed (y ∷ ys) k (suc i) x is =
+    ap (λ n. list_any (nat_eq n) (range_with_len k (length (y ∷ ys)))) (moved k i)
+    ∙ later (nat_eq (k + 1 + i) k) (all_listed ys (k + 1) i x is)
+  where
+    moved : (k i : ℕ) → k + suc i ≡ k + 1 + i
+    moved k i = omega arith
+
+    later : (b : Bool) → list_any (nat_eq (k + 1 + i)) (range_with_len (k + 1) (length ys)) ≡ true
+        → (b || list_any (nat_eq (k + 1 + i)) (range_with_len (k + 1) (length ys))) ≡ true
+    later true h = refl
+    later false h = h
+
+places_listed : (store : StoreParts) (view : PixelGrid) (there : ℕ → Bool) (k : ℕ) (layers : List Layer) (xs : List Slot)
+    → map slot_layer xs ≡ map layer_id layers → AllByRecursion (IsFound (project_of store).layers) layers
+    → ((i : ℕ) (x : Slot) → slice_get xs i ≡ Some x → there (k + i) ≡ true)
+    → ArePlacesOf (project_of store) view there k layers (map (painting_of store view) xs)
+places_listed store view there k [] [] same found each = tt
+places_listed store view there k [] (x ∷ xs) same found each = absurd cc
+places_listed store view there k (l ∷ ls) [] same found each = absurd cc
+places_listed store view there k (l ∷ ls) (x ∷ xs) same found each = (
+  subst (λ b. IsPlaceOf (project_of store) view l b (painting_of store view x)) (sym (ap there (none k) ∙ each zero x refl))
+      (place_is store view l x true (first_of x.layer l.core.id (map slot_layer xs) (map layer_id ls) same) found.0),
+  places_listed store view there (k + 1) ls xs (rest_of x.layer l.core.id (map slot_layer xs) (map layer_id ls) same) found.1
+      (λ i y is. ap there (moved k i) ∙ each (suc i) y is),
+)
+  where
+    none : (k : ℕ) → k ≡ k + 0
+    none k = omega arith
+
+    moved : (k i : ℕ) → k + 1 + i ≡ k + suc i
+    moved k i = omega arith
+
 -- ---- what is composed
 
 pub ready_picture : (row : Row) → IsWhole row
@@ -182,6 +222,14 @@ whole_picture row whole =
     composes_all_slots (project_of row.store) row.view (map (painting_of row.store row.view) row.slots)
     (places_whole row.store row.view 0 (slots (project_of row.store) row.view) row.slots whole.layers
     (slots_found row.store row.view whole.apart))
+
+pub listed_picture : (row : Row) → IsWhole row
+    → composed (whole_of row) ≡ picture_with (project_of row.store) row.view (range_with_len 0 (length row.slots))
+listed_picture row whole =
+    composes_listed_slots (project_of row.store) row.view (range_with_len 0 (length row.slots)) (map (painting_of row.store row.view) row.slots)
+    (places_listed row.store row.view (λ n. list_any (nat_eq n) (range_with_len 0 (length row.slots))) 0
+    (slots (project_of row.store) row.view) row.slots whole.layers (slots_found row.store row.view whole.apart)
+    (λ i x is. all_listed row.slots 0 i x is))
 
 -- ---- each slot
 

@@ -6,7 +6,6 @@ use Rattle.std.proofs.lemmas.Bool.Decides.{nat_tests}
 use Rattle.std.proofs.lemmas.List.{map-append}
 use Rattle.std.proofs.lemmas.Option.{slice_get-map}
 use Rattle.cv_model.specs.declared.edit.Edit.{Edit}
-use Rattle.cv_model.specs.Layers.{Layer, slots}
 use Rattle.cv_model.specs.Paintings.{Painting}
 use Rattle.cv_model.specs.Views.{PixelGrid, IsView}
 use Rattle.cv_store.specs.Stores.{StoreParts, project_of}

@@ -1,13 +1,14 @@
 -- What comes of a task: of a look that hits or misses, of a delivery that a cache takes, and of a composition.
 use Rattle.std.proofs.Common.{◌≡◌, ◌∙◌, sym, ap, refl, subst, ℕ, zero, suc, ◌+◌, ◌≤◌, Bool, true, false, not, ◌&&◌, List, [], ◌∷◌, ◌++◌}
-use Rattle.std.proofs.Common.{map, fold, Option, Some, None, slice_get, option_map, option_and_then, IsSomeAnd, is_some, arith, if◌then◌else◌, ◌==◌}
-use Rattle.std.specs.List.{AllByRecursion, list_any, list_all}
+use Rattle.std.proofs.Common.{map, fold, Option, Some, None, slice_get, option_map, option_and_then, IsSomeAnd, is_some, arith, if◌then◌else◌}
+use Rattle.std.specs.Prelude.{Result, Ok, Err, OnErr}
+use Rattle.std.specs.List.{AllByRecursion, list_any}
 use Rattle.std.specs.Option.{option_map_or}
 use Rattle.std.proofs.lemmas.Bool.{false≢true}
 use Rattle.cv_model.specs.Layers.{Parts, parts}
-use Rattle.cv_model.specs.Paintings.{Input, Painting, Composition, Stamp, frame_of}
+use Rattle.cv_model.specs.Paintings.{Input, Painting, Stamp, frame_of}
 use Rattle.cv_model.specs.Views.{PixelGrid}
-use Rattle.cv_cache.specs.Caches.{painted_id, Serves}
+use Rattle.cv_cache.specs.Caches.{Serves}
 use Rattle.cv_event.specs.declared.entry.Act.TheVariants as act
 use Rattle.cv_event.specs.declared.entry.Entry.{Entry}
 use Rattle.cv_event.specs.declared.entry.Fate.{Fate}
@@ -17,21 +18,21 @@ use Rattle.cv_event.specs.declared.slot.Slot.{Slot}
 use Rattle.cv_event.specs.declared.slot.Standing.{Standing}
 use Rattle.cv_event.specs.declared.slot.Standing.TheVariants.{Open, Missed, Ready, Lost}
 use Rattle.cv_event.specs.declared.slot.Task.TheVariants.{Look, Compose}
-use Rattle.cv_event.specs.States.{Job, Cached, Canvas, State, after, begin, change_at, change_job, job_in, did, slot_stands, stands_at, composed_by}
+use Rattle.cv_event.specs.States.{Job, Cached, Canvas, State, after, begin, change_at, change_job, job_in, did, slot_stands, stands_at}
 use Rattle.cv_event.specs.States.{with_cache, served, stored, image_of_slot, change_cache, canvases_delivered, canvases_looked}
 use Rattle.cv_event.specs.Histories.{is_kept}
-use Rattle.cv_event.specs.Legality.{OfSlot, is_open, is_ready, all_ready, task, shows, is_fresh, is_image, hits, hits_on, on_canvas, is_taken, fate_of, Allows}
+use Rattle.cv_event.specs.Legality.{is_open, is_ready, all_ready, task, shows, is_fresh, is_image, hits, hits_on, on_canvas, is_taken, fate_of}
 use Rattle.cv_event.proofs.JobLemmas.{at_map}
 use Rattle.cv_event.proofs.PaintedLemmas.{IsShownJob, shown_one}
 use Rattle.cv_event.proofs.DueLemmas.{looks_are_of_live_jobs, composes_are_of_live_jobs}
 use Rattle.cv_event.proofs.PresentLemmas.{job_of as job_kept, all_at, all_change, both_true, not_touched, stored_fresh}
-use Rattle.cv_store.specs.Stores.{StoreParts, project_of, input_in, input_from}
-use Rattle.cv_tables.specs.Rows.{Row, job_of, row_in, change_row, row_stands, row_composed, owed, weight, WhileLive, is_missed}
+use Rattle.cv_store.specs.Stores.{StoreParts, project_of, input_from}
+use Rattle.cv_tables.specs.Rows.{Row, job_of, row_in, change_row, row_stands, row_composed, owed, weight, is_missed}
 use Rattle.cv_tables.specs.Rows.{missed_weight, HasSlot, IsPaintingOf, input_of, input_at, painting_of, painting_shown, compose_of, whole_of}
 use Rattle.cv_tables.specs.Tabs.{Tab, Tables, canvas_of, cached_of, cache_of, tab_served, tab_stored, state_of, TabServes, TabLooked}
-use Rattle.cv_desk.specs.Desks.{History, state, IsPresent, IsFresh, AreFresh, IsCurrent, IsWhole, Holds, IsDesk, Notes, KeepJobs}
+use Rattle.cv_desk.specs.Desks.{History, state, AreFresh, IsCurrent, IsWhole, Holds, IsDesk, Notes, KeepJobs}
 use Rattle.cv_desk.proofs.BasisLemmas.{jobs_stand_kept, jobs_composed_kept}
-use Rattle.cv_desk.proofs.KeepingLemmas.{noted, rows_change, stands_whole, owed_in, row_of, slot_of, slot_in_state, missed_change, stands_fresh, stand_holds}
+use Rattle.cv_desk.proofs.KeepingLemmas.{noted, rows_change, stands_whole, owed_in, slot_of, slot_in_state, missed_change, stands_fresh, stand_holds}
 use Rattle.cv_desk.proofs.PaintedLemmas.{IsPainted, painted, slot_fresh, painted_present, stored_kept, served_kept, served_painting}
 use Rattle.cv_desk.proofs.PaintedLemmas.{found_input, found_any, first_is, layers_apart}
 use Rattle.cv_desk.proofs.SeenLemmas.{jobs_stand, jobs_composed, job_seen, canvases_served, canvases_stored}
@@ -535,3 +536,18 @@ delivered_slot h who j at painted fate keeps had told =
     has_slot h.tables.rows j at q.0 q.1
     (λ (row : Row) (x : Slot). (x.standing ≡ Missed who) × IsPaintingOf painted row x × (fate_of (state h) (job_of row) x ≡ fate)) q.2 q.3
     (q.4.0, (live, q.4.1 live), f)
+
+-- what wants memory is to be stored
+pub stored_slot : (h : History) (who j at : ℕ) (painted : Painting)
+    → HasSlot h.tables.rows j at
+    (λ (row : Row) (x : Slot). (x.standing ≡ Missed who) × (row.ended ≡ None → painting_of row.store row.view x ≡ Some painted))
+    → ((row : Row) (x : Slot) → row_in h.tables.rows j ≡ Some row → slice_get row.slots at ≡ Some x → fate_of (state h) (job_of row) x ≡ Stored)
+    → HasSlot h.tables.rows j at (λ (row : Row) (x : Slot). fate_of (state h) (job_of row) x ≡ Stored)
+stored_slot h who j at painted had told =
+    let q = slot_of h.tables.rows j at
+    (λ (row : Row) (x : Slot). (x.standing ≡ Missed who) × (row.ended ≡ None → painting_of row.store row.view x ≡ Some painted)) had in
+    has_slot h.tables.rows j at q.0 q.1 (λ (row : Row) (x : Slot). fate_of (state h) (job_of row) x ≡ Stored) q.2 q.3 (told q.0 q.1 q.2 q.3)
+
+pub refusal_says : {T E : Type 0} (r : Result T E) (P : Type 0) → P → OnErr r P
+refusal_says (Ok t) P p = tt
+refusal_says (Err e) P p = p

@@ -4,7 +4,6 @@
 -- rules are this project's own.
 use Rattle.std.specs.Prelude.{◌≡◌, ◌≤◌, ◌++◌, ◌∷◌, [], ℕ, false, nat_eq, List, map, take, length, Some, IfSome}
 use Rattle.std.specs.List.{AllByRecursion, IsDistinct}
-use Rattle.cv_model.specs.declared.project.CanvasSpec.{CanvasSpec}
 use Rattle.cv_model.specs.Layers.{Opening, slots}
 use Rattle.cv_model.specs.Paintings.{Painting}
 use Rattle.cv_model.specs.Views.{PixelGrid}
@@ -92,8 +91,9 @@ pub record Notes (old new : History) (who : ℕ) (a : Act) : Type 0 where
   pub allowed : Allows (state old) who a
   pub jobs : KeepJobs old.tables.rows new.tables.rows
 
--- nothing was put, and nothing changed but the places set aside
+-- nothing was put, and nothing changed, but that more places may be set aside
 pub record Stays (old new : History) : Type 0 where
   pub opening : new.opening ≡ old.opening
   pub journal : new.journal ≡ old.journal
   pub tables : new.tables ≡ old.tables
+  pub spare : old.spare ≤ new.spare

@@ -3,7 +3,7 @@
 -- Source: this project's own; what an image and a picture are, `Pictures` of cv_model says.
 use Rattle.std.specs.Prelude.{◌≡◌, ℕ, List, [], ◌∷◌, length, map, filter_map, slice_get, Option, Some, None, IfSome}
 use Rattle.std.specs.Prelude.{IsSomeAnd}
-use Rattle.std.specs.List.{AllByRecursion}
+use Rattle.std.specs.List.{AllByRecursion, range_with_len}
 use Rattle.cv_model.specs.Edits.{project_at}
 use Rattle.cv_model.specs.Layers.{Project, parts}
 use Rattle.cv_model.specs.Paintings.{Painting, composed}
@@ -74,10 +74,12 @@ present h = replay h.opening h.journal
 abbrev pub IsOf : Project → Painting → Type 0
 IsOf project p = parts project (painted_id p) ≡ Some p.input.parts
 
--- the picture that a canvas has published is that of all slots of what the job took
+-- the picture that a canvas has published is that of all slots of what the job took, also where these are listed
 pub record ShowsLast (s : State) (c : ℕ) (last : PublishedJob) : Type 0 where
   pub taken : published_on s c ≡ Some (taken_in last)
   pub picture : composed (whole_of last.row) ≡ picture (project_of last.row.store) last.row.view
+  pub listed : composed (whole_of last.row)
+      ≡ picture_with (project_of last.row.store) last.row.view (range_with_len 0 (length last.row.slots))
 
 -- the painted layers of a canvas are those that the definition of its cache names, in their order, each of the
 -- present project

@@ -1,7 +1,7 @@
 //! The desk.
 
-ghost use Rattle.std.specs.Prelude.{◌≡◌, ◌≤◌, ◌<◌, ◌+◌, ◌==◌, ◌&&◌, not, false, length, slice_get, Some, None};
-ghost use Rattle.std.specs.Prelude.{IfOk, IfErr, OnOk, OnErr, IsSome, IsSomeAnd};
+ghost use Rattle.std.specs.Prelude.{◌≡◌, ◌≤◌, ◌<◌, ◌+◌, ◌==◌, ◌&&◌, not, false, length, slice_get};
+ghost use Rattle.std.specs.Prelude.{Some, None, IfOk, IfErr, OnOk, OnErr, IsSome, IsSomeAnd};
 ghost use Rattle.std.specs.Option.{option_map_or};
 ghost use Rattle.cv_model.specs.Views.{IsView};
 ghost use Rattle.cv_event.specs.declared.entry.Act.TheVariants as act;
@@ -29,8 +29,8 @@ use std::snapshot::Snapshot;
 
 /// A store, canvases and jobs with the journal of what was done to them.
 ///
-/// It keeps that the journal is legal, that the tables are those of the state after it, that each cached layer
-/// is of the present project, and that a place is set aside for each entry that is owed.
+/// It keeps that the journal is legal, that the tables are those of the state after it, that each cached
+/// layer is of the present project, and that a place is set aside for each entry that is owed.
 #[derive(Drop)]
 pub struct Desk {
     pub(crate) alloc: Global,
@@ -246,7 +246,8 @@ impl Desk {
         }
     }
 
-    /// The present view of a canvas. There is none where the canvas is unknown or has got none. Takes no memory.
+    /// The present view of a canvas. There is none where the canvas is unknown or has got none. Takes no
+    /// memory.
     pub fn view(&self, canvas: u32) -> Option<View>
         ensures { result ≡ view_on (state self.now) canvas }
     {
@@ -258,22 +259,24 @@ impl Desk {
 
     /// The journal. Takes no memory.
     pub fn journal(&self) -> &Journal
-        ensures { result.now.entries ≡ self.now.journal }
+        ensures entries { result.now.entries ≡ self.now.journal }
+        ensures spare { result.now.spare ≡ self.now.spare }
     {
         &self.journal
     }
 
-    /// What holds of a desk, whatever was called before: its journal is legal, and each cached layer, slot and
-    /// published picture is what the definitions name. It does nothing.
+    /// What holds of a desk, whatever was called before: its journal is legal, and each cached layer, slot
+    /// and published picture is what the definitions name. It does nothing.
     pub fn known(&self)
         ensures { IsKnown self.now }
     {
         let _ = &self.alloc;
     }
 
-    /// The journal alone. Takes no memory.
+    /// The journal alone, with its places set aside. Takes no memory.
     pub fn into_journal(self) -> Journal
-        ensures { result.entries ≡ self.journal }
+        ensures entries { result.entries ≡ self.journal }
+        ensures spare { result.spare ≡ self.spare }
     {
         let Desk { journal, .. } = self;
         journal
@@ -283,7 +286,8 @@ impl Desk {
 impl Desk {
     /// Whether a canvas's present view is this.
     pub(crate) fn shows(&self, canvas: u32, view: View) -> bool
-        ensures { result ≡ option_map_or (λ k. shows k view) (slice_get (state self.now).canvases canvas) false }
+        ensures { result ≡ option_map_or (λ k. shows k view)
+            (slice_get (state self.now).canvases canvas) false }
     {
         match self.canvases.get(canvas) {
             Some(row) => row.shows(view),

@@ -2,8 +2,8 @@
 
 ghost use Rattle.cv_desk.specs.Laws.{CallsMakeHistory, DesksAreKnown};
 
-/// After every list of calls, by any callers, that is made from a desk as it is opened, the journal is the list
-/// of the calls' entries, it is legal, and the desk's state is the one after it.
+/// After every list of calls, by any callers, that is made from a desk as it is opened, the journal is the
+/// list of the calls' entries, it is legal, and the desk's state is the one after it.
 pub fn calls_make_history()
     ensures { CallsMakeHistory }
 {}

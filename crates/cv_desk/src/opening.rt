@@ -15,8 +15,8 @@ use std::alloc::Global;
 use std::snapshot::Snapshot;
 
 impl Desk {
-    /// A desk of a store at its first version, with canvases of these sizes and capacities. Its journal is empty.
-    /// A refusal hands the store back.
+    /// A desk of a store at its first version, with canvases of these sizes and capacities. Its journal is
+    /// empty. A refusal hands the store back.
     pub fn open(
         alloc: Global,
         store: Store,

@@ -67,8 +67,8 @@ impl Desk {
         Ok(Fate::Stored)
     }
 
-    /// Delivers the image of a slot that this caller's look missed. A refusal hands it back; only an image that
-    /// the cache takes can want memory.
+    /// Delivers the image of a slot that this caller's look missed. A refusal hands it back; only an image
+    /// that the cache takes can want memory.
     pub fn deliver(
         &mut self,
         who: u32,
@@ -81,6 +81,8 @@ impl Desk {
         ensures ok { IfOk result (λ fate. Notes self.old self.new who (act.Deliver job slot fate)) }
         ensures err { OnErr result (self.new ≡ self.old) }
         ensures back { IfErr result (λ e. e.0 ≡ painted) }
+        ensures wants { OnErr result (HasSlot self.old.tables.rows job slot
+            (λ row x. fate_of (state self.old) (job_of row) x ≡ Stored)) }
     {
         match self.fate(job, slot) {
             Fate::Dropped => {

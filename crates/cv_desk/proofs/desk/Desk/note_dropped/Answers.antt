@@ -1,10 +1,10 @@
-use Rattle.std.proofs.Common.{◌≡◌, ◌∙◌, sym, subst, ap, refl, map, Some, is_some, true, if◌then◌else◌}
+use Rattle.std.proofs.Common.{◌≡◌, sym, subst, ap, refl, map, is_some, true, if◌then◌else◌}
 use Rattle.cv_event.specs.declared.entry.Act.TheVariants as act
 use Rattle.cv_event.specs.declared.entry.Fate.TheVariants.{Stored, Kept, Dropped}
-use Rattle.cv_event.specs.declared.slot.Standing.TheVariants.{Missed, Ready, Lost}
-use Rattle.cv_event.specs.Legality.{fate_of, on_canvas, is_taken}
+use Rattle.cv_event.specs.declared.slot.Standing.TheVariants.{Missed, Lost}
+use Rattle.cv_event.specs.Legality.{on_canvas, is_taken}
 use Rattle.cv_store.specs.Stores.{project_of}
-use Rattle.cv_tables.specs.Rows.{HasSlot, IsPaintingOf, job_of}
+use Rattle.cv_tables.specs.Rows.{HasSlot, job_of}
 use Rattle.cv_tables.specs.Tabs.{Tab}
 use Rattle.cv_desk.specs.Desks.{History, state, Notes}
 use Rattle.cv_desk.proofs.KeepingLemmas.{slot_of, room_for_slot, delivered_noted}

@@ -1,4 +1,4 @@
-use Rattle.std.proofs.Common.{◌≡◌, ◌∙◌, ◌+◌, ◌≤◌, sym, subst, ap, refl, map, List, Option, Some, None, slice_get, true, false, not}
+use Rattle.std.proofs.Common.{◌≡◌, ◌∙◌, ◌+◌, ◌≤◌, sym, subst, ap, refl, map, List, Some, None, slice_get, true, false}
 use Rattle.std.specs.Option.{option_copied, option_map_or}
 use Rattle.cv_event.specs.declared.entry.Act.TheVariants as act
 use Rattle.cv_event.specs.declared.slot.Task.TheVariants.{Look}
@@ -91,12 +91,12 @@ returns-then-at-clause-ok c =
     let input : input_of r.store x ≡ Some i = sym read ∙ ap option_copied c.in-Some-input.is in
     let missed : hits (state h) c.args.job c.args.slot ≡ false =
     elim c.then-at.branch [
-      then-at-via-then-at w ↦ touched_misses h c.args.job c.args.slot r x i c.self.invariant there is facts.0 input w.if-at.true
-    | then-at-via-else-at+then-not-shows w ↦
-        unshown_misses h c.args.job c.args.slot r x i c.self.invariant there is facts.0 input
-        (sym (subst (λ n. w.shows.result ≡ option_map_or (λ (k : Canvas). shows k c.view-view.result) (slice_get (state n).canvases c.canvas-canvas.result) false) (sym c.self.view_is) w.shows.ensures
-        ∙ (λ j. option_map_or (λ (k : Canvas). shows k (c.view-view.ensures j)) (slice_get (state h).canvases (c.canvas-canvas.ensures j)) false))
-        ∙ w.if-not-shows.true)
+      | then-at-via-then-at w ↦ touched_misses h c.args.job c.args.slot r x i c.self.invariant there is facts.0 input w.if-at.true
+      | then-at-via-else-at+then-not-shows w ↦
+          unshown_misses h c.args.job c.args.slot r x i c.self.invariant there is facts.0 input
+          (sym (subst (λ n. w.shows.result ≡ option_map_or (λ (k : Canvas). shows k c.view-view.result) (slice_get (state n).canvases c.canvas-canvas.result) false) (sym c.self.view_is) w.shows.ensures
+          ∙ (λ j. option_map_or (λ (k : Canvas). shows k (c.view-view.ensures j)) (slice_get (state h).canvases (c.canvas-canvas.ensures j)) false))
+          ∙ w.if-not-shows.true)
     ] in
     (refl, subst (λ n. hits (state n) c.args.job c.args.slot ≡ false) c.self.view_is missed)
 
@@ -189,9 +189,10 @@ returns-in-Some-2-clause-ok c =
       journal = c.push.new.self.entries;
       spare = c.push.new.self.spare;
       tables = record h.tables { tabs = c.look.new.self; rows = c.ready.new.self };
-    } in
-    (subst (λ n. Notes n new c.args.who (act.Look c.args.job c.args.slot true)) c.self.view_is both.1,
-    subst (λ n. hits (state n) c.args.job c.args.slot ≡ true) c.self.view_is hit)
+    } in (
+      subst (λ n. Notes n new c.args.who (act.Look c.args.job c.args.slot true)) c.self.view_is both.1,
+      subst (λ n. hits (state n) c.args.job c.args.slot ≡ true) c.self.view_is hit,
+    )
 
 pub returns-in-None-clause-ok : goal.returns-in-None-clause-ok
 returns-in-None-clause-ok c =
@@ -218,6 +219,7 @@ returns-in-None-clause-ok c =
     c.in_ok-painted.field-0 None c.canvas-canvas.ensures c.view-view.ensures c.in-None.is c.in_ok-painted.ensures.ok in
     let stamps : stamp_list c.stamps-stamps.result ≡ i.stamps = c.stamps-stamps.ensures ∙ ap (λ (k : Input). k.stamps) c.value.ensures in
     let none = subst (λ s. (p : Painting) → TabServes h.tables.tabs r.canvas x.layer s r.view p → ⊥) stamps looked.0 in
-    let missed = absent_misses h c.args.job c.args.slot r x i c.self.invariant there is facts.0 input none in
-    (ap (λ (tabs : List Tab). record h { tables = (record h.tables { tabs = tabs }) }) looked.1 ∙ c.self.view_is,
-    subst (λ n. hits (state n) c.args.job c.args.slot ≡ false) c.self.view_is missed)
+    let missed = absent_misses h c.args.job c.args.slot r x i c.self.invariant there is facts.0 input none in (
+      ap (λ (tabs : List Tab). record h { tables = (record h.tables { tabs = tabs }) }) looked.1 ∙ c.self.view_is,
+      subst (λ n. hits (state n) c.args.job c.args.slot ≡ false) c.self.view_is missed,
+    )

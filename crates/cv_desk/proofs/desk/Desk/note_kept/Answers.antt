@@ -1,8 +1,8 @@
-use Rattle.std.proofs.Common.{◌≡◌, ◌∙◌, sym, subst, ap, refl, map, Some, is_some, true, if◌then◌else◌}
+use Rattle.std.proofs.Common.{◌≡◌, sym, subst, refl, map}
 use Rattle.cv_event.specs.declared.entry.Act.TheVariants as act
-use Rattle.cv_event.specs.declared.entry.Fate.TheVariants.{Stored, Kept, Dropped}
-use Rattle.cv_event.specs.declared.slot.Standing.TheVariants.{Missed, Ready, Lost}
-use Rattle.cv_event.specs.Legality.{fate_of, on_canvas, is_taken}
+use Rattle.cv_event.specs.declared.entry.Fate.TheVariants.{Kept}
+use Rattle.cv_event.specs.declared.slot.Standing.TheVariants.{Missed, Ready}
+use Rattle.cv_event.specs.Legality.{fate_of}
 use Rattle.cv_store.specs.Stores.{project_of}
 use Rattle.cv_tables.specs.Rows.{HasSlot, IsPaintingOf, job_of}
 use Rattle.cv_tables.specs.Tabs.{Tab}

@@ -1,14 +1,12 @@
-use Rattle.std.proofs.Common.{◌≡◌, ◌∙◌, sym, subst, ap, refl, map, arith, ◌+◌, ◌≤◌, ◌<◌, Some, IsSomeAnd, slice_get, length, is_some, suc}
+use Rattle.std.proofs.Common.{◌≡◌, sym, subst, map, ◌+◌, ◌≤◌, ◌<◌, Some, length}
 use Rattle.cv_event.specs.declared.entry.Act.TheVariants as act
-use Rattle.cv_event.specs.Legality.{OfJob, Allows}
-use Rattle.cv_event.specs.States.{view_on, change_at}
+use Rattle.cv_event.specs.States.{view_on}
 use Rattle.cv_store.specs.Stores.{project_of}
 use Rattle.cv_tables.specs.Rows.{owed, new_row}
-use Rattle.cv_tables.specs.Tabs.{Tab, Tables, tab_viewed}
-use Rattle.cv_desk.specs.Desks.{History, state, Notes, IsDesk, Holds, KeepJobs}
-use Rattle.cv_desk.specs.Answers.{FitsCanvas}
+use Rattle.cv_tables.specs.Tabs.{Tab}
+use Rattle.cv_desk.specs.Desks.{History, state, Notes, Holds, KeepJobs}
 use Rattle.cv_desk.proofs.BasisLemmas.{jobs_started_kept}
-use Rattle.cv_desk.proofs.KeepingLemmas.{noted, same_holds, view_holds, view_seen, start_holds, start_seen, started_rows}
+use Rattle.cv_desk.proofs.KeepingLemmas.{noted, start_holds, start_seen, started_rows}
 use Rattle.cv_desk.proofs.desk.Desk.note_start.Goals as goal
 
 pub invariant_of-self : goal.invariant_of-self

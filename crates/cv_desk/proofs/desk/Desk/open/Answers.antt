@@ -1,4 +1,4 @@
-use Rattle.std.proofs.Common.{◌≡◌, ◌∙◌, sym, ap, map}
+use Rattle.std.proofs.Common.{◌∙◌, sym, ap, map}
 use Rattle.cv_model.specs.Layers.{Opening}
 use Rattle.cv_store.specs.Stores.{project_of}
 use Rattle.cv_event.specs.States.{replay}

@@ -1,6 +1,6 @@
 use Rattle.std.proofs.Common.{◌≡◌, ◌∙◌, sym, ap, subst, Some, slice_get}
 use Rattle.std.specs.Option.{option_copied}
-use Rattle.cv_tables.specs.Tabs.{Tab, Tables, state_of}
+use Rattle.cv_tables.specs.Tabs.{Tables, state_of}
 use Rattle.cv_desk.specs.Desks.{History}
 use Rattle.cv_desk.specs.Answers.{FitsCanvas}
 use Rattle.cv_desk.proofs.SeenLemmas.{fits_there, sized}
