@@ -13,6 +13,8 @@ pub mod laws;
 mod looks;
 mod opening;
 mod tasks;
+#[cfg(test)]
+mod tests;
 
 pub use desk::Desk;
 pub use errors::{
