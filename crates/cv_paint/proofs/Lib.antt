@@ -5,3 +5,5 @@ pub mod MaskLemmas
 pub mod CellLemmas
 pub mod PaintedLemmas
 pub mod TableLemmas
+pub mod CostLemmas
+pub mod WindowLemmas

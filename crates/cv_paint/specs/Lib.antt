@@ -3,3 +3,5 @@ pub mod Layings
 pub mod Finish
 pub mod Masks
 pub mod Cells
+pub mod Windows
+pub mod Costs

@@ -1,10 +1,11 @@
 //! Features of a layer, laid on a canvas one after the other.
 
-ghost use Rattle.std.specs.Prelude.{◌≡◌, ◌≤◌, OnOk, IfErr};
+ghost use Rattle.std.specs.Prelude.{◌≡◌, ◌+◌, ◌≤◌, OnOk, IfErr};
 ghost use Rattle.std.specs.List.{flat_map};
 ghost use Rattle.cv_model.specs.Pictures.{feature_strokes};
 ghost use Rattle.cv_paint.specs.Layings.{IsSized, Lays, TakesLayer};
 ghost use Rattle.cv_paint.specs.Finish.{StopCause};
+ghost use Rattle.cv_paint.specs.Costs.{feature_cost, features_cost};
 
 use crate::error::PaintError;
 use crate::layings::{Workspace, lay_geometry};
@@ -30,6 +31,7 @@ fn lay_row<C: Canvas, L: Ledger>(
     ensures frame { C.frame canvas.new ≡ C.frame canvas.old }
     ensures laid { OnOk result (Lays view.now (λ p. feature_strokes input.now.parts view.now p row.now)
         (C.at canvas.old) (C.at canvas.new)) }
+    ensures cost { steps.new ≤ steps.old + feature_cost view.now row.now }
 {
     let Some(symbol) = feature_symbol(input, row) else {
         return Ok(());
@@ -56,6 +58,7 @@ fn lay_rows<C: Canvas, L: Ledger>(
     ensures laid { OnOk result (Lays view.now
         (λ p. flat_map (feature_strokes input.now.parts view.now p) rows.now)
         (C.at canvas.old) (C.at canvas.new)) }
+    ensures cost { steps.new ≤ steps.old + features_cost view.now rows.now }
 {
     for row in rows {
         lay_row(canvas, row, input, view, work, steps)?;
@@ -81,6 +84,7 @@ pub fn lay_table<C: Canvas, S: Stop, L: Ledger>(
     ensures laid { OnOk result (Lays view.now
         (λ p. flat_map (feature_strokes input.now.parts view.now p) table.now.features)
         (C.at canvas.old) (C.at canvas.new)) }
+    ensures cost { steps.new ≤ steps.old + features_cost view.now table.now.features }
     ensures err { IfErr result (λ e. StopCause e (S.yeses stop.old) (S.yeses stop.new)) }
 {
     let rows = table.rows();

@@ -1,19 +1,23 @@
 //! Rows of a canvas, finished one after the other.
 
-ghost use Rattle.std.specs.Prelude.{◌≡◌, ◌<◌, ◌≤◌, ◌++◌, Bool, true, OnOk, IfErr, length};
+ghost use Rattle.std.specs.Prelude.{◌≡◌, ◌+◌, ◌*◌, ◌<◌, ◌≤◌, ◌++◌, Bool, true, OnOk, IfErr, length};
 ghost use Rattle.cv_model.specs.Rasters.{row_of, pixels_of};
 ghost use Rattle.cv_canvas.specs.Cover.{is_covered_in};
 ghost use Rattle.cv_paint.specs.Layings.{IsSized};
 ghost use Rattle.cv_paint.specs.Cells.{cell_pixel};
+ghost use Rattle.cv_paint.specs.Costs.{view_size};
 ghost use Rattle.cv_paint.specs.Finish.{shown, masked, kept, kept_in, IsMaskOf, StopCause};
 
 use crate::cells::cells_row;
 use crate::error::PaintError;
+use crate::steps::count;
 use cv_canvas::{Canvas, Cover};
+use cv_geom::Steps;
 use cv_layer::Cells;
 use cv_model::{NoMemory, Rgba, RgbaList, Style, View};
 use cv_outside::Stop;
 use std::alloc::Global;
+use std::sync::ledger::Ledger;
 
 /// A pixel on which nothing lies.
 const CLEAR: Rgba = Rgba {
@@ -50,37 +54,47 @@ fn keep_shown(row: &mut [Rgba], is_shown: &[bool])
     }
 }
 
-/// Clears the pixels of a row that a mask doesn't show.
-fn mask_row(mask: &Option<Cover>, view: &View, j: u32, row: &mut [Rgba])
+/// Clears the pixels of a row that a mask doesn't show. Each of them is a step, where there is a mask.
+fn mask_row<L: Ledger>(
+    mask: &Option<Cover>,
+    view: &View,
+    j: u32,
+    row: &mut [Rgba],
+    steps: &mut Steps<L>,
+)
     requires mask { IsMaskOf view.now mask.now }
     requires row { j < view.now.h }
     requires length { length row.old ≡ view.now.w }
-    ensures { row.new ≡ kept_in mask.now j row.old }
+    ensures kept { row.new ≡ kept_in mask.now j row.old }
+    ensures cost { steps.new ≤ steps.old + view.now.w }
 {
     if let Some(cover) = mask {
+        count(steps, view.w);
         keep_shown(row, cover.row(j));
     }
 }
 
 /// Puts the pixels of a row, as a mask shows them, behind others.
 #[tactic(auto, using(crate::proofs::MaskLemmas::masked_row))]
-fn put_row<C: Canvas>(
+fn put_row<C: Canvas, L: Ledger>(
     canvas: &C,
     mask: &Option<Cover>,
     view: &View,
     j: u32,
     row: &mut [Rgba],
+    steps: &mut Steps<L>,
     pixels: &mut RgbaList,
 ) -> Result<(), NoMemory>
     requires size { IsSized view.now (C.frame canvas.now) }
     requires mask { IsMaskOf view.now mask.now }
     requires row { j < view.now.h }
     requires length { length row.old ≡ view.now.w }
-    ensures { OnOk result
+    ensures ok { OnOk result
         (pixels.new ≡ pixels.old ++ row_of view.now.w (masked mask.now (C.at canvas.now)) j) }
+    ensures cost { steps.new ≤ steps.old + view.now.w }
 {
     canvas.row(j, row);
-    mask_row(mask, view, j, row);
+    mask_row(mask, view, j, row, steps);
     put_all(pixels, row)?;
     Ok(())
 }
@@ -88,12 +102,13 @@ fn put_row<C: Canvas>(
 /// Puts the pixels of a canvas, as a mask shows them, behind others, row by row from the top.
 ///
 /// The stop is asked before each row.
-pub fn put_rows<C: Canvas, S: Stop>(
+pub fn put_rows<C: Canvas, S: Stop, L: Ledger>(
     alloc: Global,
     canvas: &C,
     mask: &Option<Cover>,
     view: &View,
     stop: &mut S,
+    steps: &mut Steps<L>,
     pixels: &mut RgbaList,
 ) -> Result<(), PaintError>
     requires size { IsSized view.now (C.frame canvas.now) }
@@ -102,36 +117,40 @@ pub fn put_rows<C: Canvas, S: Stop>(
     ensures ok { OnOk result (pixels.new
         ≡ pixels.old ++ pixels_of view.now.w view.now.h (masked mask.now (C.at canvas.now))) }
     ensures err { IfErr result (λ e. StopCause e (S.yeses stop.old) (S.yeses stop.new)) }
+    ensures cost { steps.new ≤ steps.old + view_size view.now }
 {
     let mut row = vec![in alloc; CLEAR; view.w as usize]?;
     for j in 0..view.h {
         if stop.poll() {
             return Err(PaintError::Stopped);
         }
-        put_row(canvas, mask, view, j, &mut row, pixels)?;
+        put_row(canvas, mask, view, j, &mut row, steps, pixels)?;
     }
     Ok(())
 }
 
-/// Puts the pixels of a grid's row, as a mask shows them, behind others.
+/// Puts the pixels of a grid's row, as a mask shows them, behind others. A cell laid on a pixel is a step.
 #[tactic(auto, using(crate::proofs::MaskLemmas::masked_row))]
-fn put_cells_row(
+fn put_cells_row<L: Ledger>(
     cells: &Cells,
     style: &Style,
     mask: &Option<Cover>,
     view: &View,
     j: u32,
     row: &mut [Rgba],
+    steps: &mut Steps<L>,
     pixels: &mut RgbaList,
 ) -> Result<(), NoMemory>
     requires mask { IsMaskOf view.now mask.now }
     requires row { j < view.now.h }
     requires length { length row.old ≡ view.now.w }
-    ensures { OnOk result (pixels.new
+    ensures ok { OnOk result (pixels.new
         ≡ pixels.old ++ row_of view.now.w (masked mask.now (cell_pixel style.now cells.now view.now)) j) }
+    ensures cost { steps.new ≤ steps.old + 2 * view.now.w }
 {
+    count(steps, view.w);
     cells_row(cells, style, view, j, row);
-    mask_row(mask, view, j, row);
+    mask_row(mask, view, j, row, steps);
     put_all(pixels, row)?;
     Ok(())
 }
@@ -139,13 +158,14 @@ fn put_cells_row(
 /// Puts the pixels of a grid, as a mask shows them, behind others, row by row from the top.
 ///
 /// The stop is asked before each row.
-pub fn put_cells<S: Stop>(
+pub fn put_cells<S: Stop, L: Ledger>(
     alloc: Global,
     cells: &Cells,
     style: &Style,
     mask: &Option<Cover>,
     view: &View,
     stop: &mut S,
+    steps: &mut Steps<L>,
     pixels: &mut RgbaList,
 ) -> Result<(), PaintError>
     requires { IsMaskOf view.now mask.now }
@@ -153,13 +173,14 @@ pub fn put_cells<S: Stop>(
     ensures ok { OnOk result (pixels.new ≡ pixels.old
         ++ pixels_of view.now.w view.now.h (masked mask.now (cell_pixel style.now cells.now view.now))) }
     ensures err { IfErr result (λ e. StopCause e (S.yeses stop.old) (S.yeses stop.new)) }
+    ensures cost { steps.new ≤ steps.old + 2 * view_size view.now }
 {
     let mut row = vec![in alloc; CLEAR; view.w as usize]?;
     for j in 0..view.h {
         if stop.poll() {
             return Err(PaintError::Stopped);
         }
-        put_cells_row(cells, style, mask, view, j, &mut row, pixels)?;
+        put_cells_row(cells, style, mask, view, j, &mut row, steps, pixels)?;
     }
     Ok(())
 }

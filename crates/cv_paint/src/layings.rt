@@ -1,15 +1,17 @@
 //! Strokes of a geometry, laid on a canvas run by run.
 
-ghost use Rattle.std.specs.Prelude.{◌≡◌, ◌++◌, OnOk, All, Some};
+ghost use Rattle.std.specs.Prelude.{◌≡◌, ◌+◌, ◌≤◌, ◌++◌, OnOk, All, Some, length, sum_by};
 ghost use Rattle.cv_model.specs.declared.colour.Rgba.{Rgba};
 ghost use Rattle.cv_model.specs.Pens.{PenParts};
 ghost use Rattle.cv_model.specs.Markers.{MarkerParts};
 ghost use Rattle.cv_model.specs.Pictures.{hits_rings, hits_lines, laid_where, fill_strokes, pen_strokes};
 ghost use Rattle.cv_model.specs.Pictures.{half_side, marker_strokes, strokes_of};
-ghost use Rattle.cv_geom.specs.Runs.{IsArea};
-ghost use Rattle.cv_canvas.specs.Canvas.{LiesOn, IsInk, with_runs};
+ghost use Rattle.cv_geom.specs.Runs.{IsArea, length_of, edges_of, segments_of};
+ghost use Rattle.cv_canvas.specs.Canvas.{LiesOn, IsInk, with_run, with_runs};
+ghost use Rattle.cv_paint.specs.Costs.{runs_cost, geometry_cost};
 ghost use Rattle.cv_paint.specs.Layings.{IsSized, Lays, TakesSymbol, whole_of};
 
+use crate::steps::count;
 use cv_canvas::Canvas;
 use cv_geom::{Area, Run, Runs, Steps};
 use cv_model::{Geometry, Marker, NoMemory, Pen, Rgba, Span, Symbol, View};
@@ -52,15 +54,28 @@ pub fn whole_of(view: &View) -> Area
     }
 }
 
-/// Lays a colour on the pixels of these runs, one after the other.
-fn lay_runs<C: Canvas>(canvas: &mut C, runs: &[Run], colour: Rgba)
+/// Lays a colour on the pixels of a run. Each of them is a step.
+fn lay_run<C: Canvas, L: Ledger>(canvas: &mut C, run: Run, colour: Rgba, steps: &mut Steps<L>)
+    requires within { LiesOn (C.frame canvas.old) run }
+    requires ink { IsInk (C.frame canvas.old).ink colour }
+    ensures frame { C.frame canvas.new ≡ C.frame canvas.old }
+    ensures laid { C.at canvas.new ≡ with_run colour (C.at canvas.old) run }
+    ensures cost { steps.new ≡ steps.old + length_of run }
+{
+    canvas.lay(run, colour);
+    count(steps, run.end - run.from);
+}
+
+/// Lays a colour on the pixels of these runs, one after the other. Each of them is a step.
+fn lay_runs<C: Canvas, L: Ledger>(canvas: &mut C, runs: &[Run], colour: Rgba, steps: &mut Steps<L>)
     requires within { All (LiesOn (C.frame canvas.old)) runs.now }
     requires ink { IsInk (C.frame canvas.old).ink colour }
     ensures frame { C.frame canvas.new ≡ C.frame canvas.old }
     ensures laid { C.at canvas.new ≡ with_runs colour (C.at canvas.old) runs.now }
+    ensures cost { steps.new ≡ steps.old + sum_by length_of runs.now }
 {
     for run in runs {
-        canvas.lay(*run, colour);
+        lay_run(canvas, *run, colour, steps);
     }
 }
 
@@ -78,6 +93,7 @@ fn lay_fill<C: Canvas, L: Ledger>(
     ensures frame { C.frame canvas.new ≡ C.frame canvas.old }
     ensures laid { OnOk result (Lays view.now (λ p. fill_strokes p geometry.now fill)
         (C.at canvas.old) (C.at canvas.new)) }
+    ensures cost { steps.new ≤ steps.old + runs_cost view.now (length (edges_of geometry.now.polygons)) }
 {
     let Some(colour) = fill else {
         return Ok(());
@@ -92,7 +108,7 @@ fn lay_fill<C: Canvas, L: Ledger>(
         &mut work.runs,
         steps,
     )?;
-    lay_runs(canvas, work.runs.as_slice(), colour);
+    lay_runs(canvas, work.runs.as_slice(), colour, steps);
     Ok(())
 }
 
@@ -111,11 +127,12 @@ fn lay_rings<C: Canvas, L: Ledger>(
     ensures laid { OnOk result (Lays view.now
         (λ p. laid_where (hits_rings (half_side view.now pen.width) p geometry.now) pen.colour)
         (C.at canvas.old) (C.at canvas.new)) }
+    ensures cost { steps.new ≤ steps.old + runs_cost view.now (length (edges_of geometry.now.polygons)) }
 {
     let area = whole_of(view);
     let polygons = geometry.polygons();
     ring_runs(polygons, pen.side(), view, area, &mut work.runs, steps)?;
-    lay_runs(canvas, work.runs.as_slice(), pen.colour);
+    lay_runs(canvas, work.runs.as_slice(), pen.colour, steps);
     Ok(())
 }
 
@@ -134,11 +151,12 @@ fn lay_lines<C: Canvas, L: Ledger>(
     ensures laid { OnOk result (Lays view.now
         (λ p. laid_where (hits_lines (half_side view.now pen.width) p geometry.now) pen.colour)
         (C.at canvas.old) (C.at canvas.new)) }
+    ensures cost { steps.new ≤ steps.old + runs_cost view.now (length (segments_of geometry.now.lines)) }
 {
     let area = whole_of(view);
     let lines = geometry.lines();
     line_runs(lines, pen.side(), view, area, &mut work.runs, steps)?;
-    lay_runs(canvas, work.runs.as_slice(), pen.colour);
+    lay_runs(canvas, work.runs.as_slice(), pen.colour, steps);
     Ok(())
 }
 
@@ -156,6 +174,8 @@ fn lay_pen<C: Canvas, L: Ledger>(
     ensures frame { C.frame canvas.new ≡ C.frame canvas.old }
     ensures laid { OnOk result (Lays view.now (λ p. pen_strokes view.now p geometry.now pen)
         (C.at canvas.old) (C.at canvas.new)) }
+    ensures cost { steps.new ≤ steps.old + (runs_cost view.now (length (edges_of geometry.now.polygons))
+        + runs_cost view.now (length (segments_of geometry.now.lines))) }
 {
     let Some(pen) = pen else {
         return Ok(());
@@ -179,6 +199,7 @@ fn lay_marker<C: Canvas, L: Ledger>(
     ensures frame { C.frame canvas.new ≡ C.frame canvas.old }
     ensures laid { OnOk result (Lays view.now (λ p. marker_strokes view.now p geometry.now marker)
         (C.at canvas.old) (C.at canvas.new)) }
+    ensures cost { steps.new ≤ steps.old + runs_cost view.now (length geometry.now.points) }
 {
     let Some(marker) = marker else {
         return Ok(());
@@ -187,12 +208,13 @@ fn lay_marker<C: Canvas, L: Ledger>(
     let points = geometry.points();
     let (shape, side) = (marker.shape, marker.side());
     marker_runs(points, shape, side, view, area, &mut work.runs, steps)?;
-    lay_runs(canvas, work.runs.as_slice(), marker.colour);
+    lay_runs(canvas, work.runs.as_slice(), marker.colour, steps);
     Ok(())
 }
 
 /// Lays what a geometry with a symbol lays on each pixel of a view: the fill, the pen and the marker, in this
-/// order. Where memory wants, what lies on the canvas is open.
+/// order. Where memory wants, what lies on the canvas is open. A step is an edge, a segment or a point
+/// visited for one row, or a stroke laid on a pixel.
 pub fn lay_geometry<C: Canvas, L: Ledger>(
     canvas: &mut C,
     geometry: &Geometry,
@@ -206,6 +228,7 @@ pub fn lay_geometry<C: Canvas, L: Ledger>(
     ensures frame { C.frame canvas.new ≡ C.frame canvas.old }
     ensures laid { OnOk result (Lays view.now (λ p. strokes_of symbol.now view.now p geometry.now)
         (C.at canvas.old) (C.at canvas.new)) }
+    ensures cost { steps.new ≤ steps.old + geometry_cost view.now geometry.now }
 {
     lay_fill(canvas, geometry, symbol.fill, view, work, steps)?;
     lay_pen(canvas, geometry, symbol.pen, view, work, steps)?;

@@ -16,9 +16,15 @@ mod layings;
 mod masks;
 mod painted;
 mod sides;
+mod steps;
+mod strips;
 mod strokes;
 mod texts;
+mod whole;
+mod windows;
 
 pub use centres::plain;
 pub use error::PaintError;
-pub use painted::paint;
+pub use steps::lay;
+pub use strips::paint_strips;
+pub use whole::paint;

@@ -1,6 +1,6 @@
-//! A layer painted at a view.
+//! The pixels of a layer at a view.
 
-ghost use Rattle.std.specs.Prelude.{◌≡◌, ◌<◌, ◌≤◌, ◌++◌, OnOk, IfOk, IfErr};
+ghost use Rattle.std.specs.Prelude.{◌≡◌, ◌+◌, ◌≤◌, ◌++◌, OnOk, IfOk, IfErr};
 ghost use Rattle.std.specs.List.{flat_map};
 ghost use Rattle.cv_model.specs.Views.{centre_of};
 ghost use Rattle.cv_model.specs.Colours.{laid};
@@ -9,6 +9,7 @@ ghost use Rattle.cv_model.specs.Pictures.{feature_strokes, pixel};
 ghost use Rattle.cv_layer.specs.Layers.{contents_seen};
 ghost use Rattle.cv_paint.specs.Finish.{masked, IsMaskOf, StopCause};
 ghost use Rattle.cv_paint.specs.Masks.{IsMask, IsCoverOf};
+ghost use Rattle.cv_paint.specs.Costs.{contents_cost, features_cost, mask_cost, view_size, view_cost};
 
 use crate::error::PaintError;
 use crate::features::lay_table;
@@ -17,12 +18,11 @@ use crate::layings::Workspace;
 use crate::masks::cover_table;
 use cv_canvas::{Cover, PixelCanvas};
 use cv_geom::Steps;
-use cv_layer::{LayerContents, LayerInput, PaintedLayer, Piece, Table};
-use cv_model::{Image, RgbaList, View};
+use cv_layer::{LayerContents, LayerInput, Table};
+use cv_model::{RgbaList, View};
 use cv_outside::Stop;
 use std::alloc::Global;
-use std::marker::Brand;
-use std::sync::ledger::{Blank, Ledger};
+use std::sync::ledger::Ledger;
 
 /// What a mask layer with these contents shows.
 fn cover_of<S: Stop, L: Ledger>(
@@ -36,6 +36,7 @@ fn cover_of<S: Stop, L: Ledger>(
     ensures counts { S.yeses stop.old ≤ S.yeses stop.new }
     ensures ok { IfOk result (IsCoverOf view.now (contents_seen contents.now)) }
     ensures err { IfErr result (λ e. StopCause e (S.yeses stop.old) (S.yeses stop.new)) }
+    ensures cost { steps.new ≤ steps.old + contents_cost view.now (contents_seen contents.now) }
 {
     let mut cover = Cover::new(alloc, view.w, view.h)?;
     match contents {
@@ -59,6 +60,7 @@ fn mask_of<S: Stop, L: Ledger>(
     ensures counts { S.yeses stop.old ≤ S.yeses stop.new }
     ensures ok { IfOk result (IsMask view.now input.now.parts.mask) }
     ensures err { IfErr result (λ e. StopCause e (S.yeses stop.old) (S.yeses stop.new)) }
+    ensures cost { steps.new ≤ steps.old + mask_cost view.now input.now.parts.mask }
 {
     match input.mask() {
         Some(layer) => {
@@ -87,15 +89,16 @@ fn paint_table<S: Stop, L: Ledger>(
         (λ i j. laid (flat_map (feature_strokes input.now.parts view.now (centre_of view.now i j))
         table.now.features)))) }
     ensures err { IfErr result (λ e. StopCause e (S.yeses stop.old) (S.yeses stop.new)) }
+    ensures cost { steps.new ≤ steps.old + (features_cost view.now table.now.features + view_size view.now) }
 {
     let mut canvas = PixelCanvas::new(alloc, view.w, view.h)?;
     lay_table(&mut canvas, table, input, view, work, stop, steps)?;
-    put_rows(alloc, &canvas, mask, view, stop, pixels)?;
+    put_rows(alloc, &canvas, mask, view, stop, steps, pixels)?;
     Ok(())
 }
 
 /// Puts the pixels of a layer at a view behind others, row by row from the top.
-fn paint_view<S: Stop, L: Ledger>(
+pub fn paint_view<S: Stop, L: Ledger>(
     alloc: Global,
     input: &LayerInput,
     view: &View,
@@ -107,6 +110,7 @@ fn paint_view<S: Stop, L: Ledger>(
     ensures ok { OnOk result
         (pixels.new ≡ pixels.old ++ pixels_of view.now.w view.now.h (pixel input.now.parts view.now)) }
     ensures err { IfErr result (λ e. StopCause e (S.yeses stop.old) (S.yeses stop.new)) }
+    ensures cost { steps.new ≤ steps.old + view_cost view.now input.now.parts }
 {
     let mut work = Workspace::new(alloc);
     let mask = mask_of(alloc, input, view, &mut work, stop, steps)?;
@@ -119,56 +123,17 @@ fn paint_view<S: Stop, L: Ledger>(
             Ok(())
         }
         LayerContents::Grid(cells) => {
-            put_cells(alloc, cells, layer.style(), &mask, view, stop, pixels)?;
+            put_cells(
+                alloc,
+                cells,
+                layer.style(),
+                &mask,
+                view,
+                stop,
+                steps,
+                pixels,
+            )?;
             Ok(())
         }
     }
-}
-
-/// The layer of a piece painted at its view, by runs of pixels.
-///
-/// The stop is asked before each row is finished, and now and then while features are laid; after a yes
-/// nothing more is painted.
-pub fn paint<S: Stop>(
-    alloc: Global,
-    piece: &Piece,
-    stop: &mut S,
-) -> Result<PaintedLayer, PaintError>
-    ensures counts { S.yeses stop.old ≤ S.yeses stop.new }
-    ensures ok { IfOk result
-        (λ painted. painted ≡ record { input = piece.now.input; view = piece.now.view }) }
-    ensures err { IfErr result (λ e. StopCause e (S.yeses stop.old) (S.yeses stop.new)) }
-{
-    paint_counted::<S, Brand>(alloc, piece, stop, Blank::new(1))
-}
-
-/// The same, with a count of steps that nobody reads.
-fn paint_counted<S: Stop, L: Ledger>(
-    alloc: Global,
-    piece: &Piece,
-    stop: &mut S,
-    blank: Blank,
-) -> Result<PaintedLayer, PaintError>
-    requires name { blank.name ≡ L.name }
-    requires parts { blank.parts ≡ L.parts }
-    requires some { 0 < L.parts }
-    ensures counts { S.yeses stop.old ≤ S.yeses stop.new }
-    ensures ok { IfOk result
-        (λ painted. painted ≡ record { input = piece.now.input; view = piece.now.view }) }
-    ensures err { IfErr result (λ e. StopCause e (S.yeses stop.old) (S.yeses stop.new)) }
-{
-    let mut steps = Steps::<L>::of(blank);
-    let view = piece.view;
-    let mut pixels = RgbaList::with_room(alloc, u64::from(view.w) * u64::from(view.h))?;
-    paint_view(
-        alloc,
-        piece.input.value(),
-        &view,
-        stop,
-        &mut steps,
-        &mut pixels,
-    )?;
-    let input = piece.input.clone()?;
-    let image = Image::of(view.w, view.h, pixels);
-    Ok(PaintedLayer::of(input, view, image))
 }

@@ -87,12 +87,12 @@ last_append q (x ∷ xs) ys h =
     let next : suc (last_touch q (xs ++ ys)) ≡ length (x ∷ xs) + last_touch q ys = omega (arith, more) in
     ap (λ b. if b then suc (last_touch q (xs ++ ys)) else if hits q x then 1 else 0) above ∙ next
 
-last_stays : (q : ℕ) (xs ys : List Edit) → Spare q ys → last_touch q (xs ++ ys) ≡ last_touch q xs
+pub last_stays : (q : ℕ) (xs ys : List Edit) → Spare q ys → last_touch q (xs ++ ys) ≡ last_touch q xs
 last_stays q [] ys h = last_spare q ys h
 last_stays q (x ∷ xs) ys h = ap (λ n. if nat_lt 0 n then suc n else if hits q x then 1 else 0) (last_stays q xs ys h)
 
 -- so, where the last touch is as before, none of the edits behind touches it
-spare_behind : (q : ℕ) (xs ys : List Edit) → last_touch q (xs ++ ys) ≡ last_touch q xs → Spare q ys
+pub spare_behind : (q : ℕ) (xs ys : List Edit) → last_touch q (xs ++ ys) ≡ last_touch q xs → Spare q ys
 spare_behind q xs ys h = by (list_any (hits q) ys) refl
   where
     by : (b : Bool) → list_any (hits q) ys ≡ b → b ≡ false
@@ -105,7 +105,7 @@ spare_behind q xs ys h = by (list_any (hits q) ys) refl
 
 -- ---- cores behind edits that don't touch them
 
-core_spare : (q : ℕ) (es : List Edit) (p : Project) → Spare q es
+pub core_spare : (q : ℕ) (es : List Edit) (p : Project) → Spare q es
     → core_in (fold step p es).layers q ≡ core_in p.layers q
 core_spare q [] p h = refl
 core_spare q (e ∷ es) p h = by (hits q e) refl h (core_spare q es (step p e))
@@ -234,7 +234,7 @@ take_take (suc m) zero xs h = absurd (omega (arith, h))
 take_take (suc m) (suc n) [] h = refl
 take_take (suc m) (suc n) (x ∷ xs) h = ap (λ l. x ∷ l) (take_take m n xs (omega (arith, h)))
 
-split : (m n : ℕ) (edits : List Edit) → m ≤ n → take m edits ++ drop m (take n edits) ≡ take n edits
+pub split : (m n : ℕ) (edits : List Edit) → m ≤ n → take m edits ++ drop m (take n edits) ≡ take n edits
 split m n edits h = ap (λ l. l ++ drop m (take n edits)) (sym (take_take m n edits h)) ∙ take-append-drop m (take n edits)
 
 pub equal_stamps_equal_parts : EqualStampsEqualParts
@@ -253,7 +253,7 @@ length_more : (es : List Edit) (e : Edit) → length (es ++ e ∷ []) ≡ suc (l
 length_more [] e = refl
 length_more (x ∷ es) e = ap suc (length_more es e)
 
-any_core : (q : ℕ) (layers : List Layer) → has_layer q layers ≡ is_some (core_in layers q)
+pub any_core : (q : ℕ) (layers : List Layer) → has_layer q layers ≡ is_some (core_in layers q)
 any_core q [] = refl
 any_core q (l ∷ layers) = by (is_layer q l) (any_core q layers)
   where

@@ -8,6 +8,7 @@ pub mod LawLemmas
 pub mod Verdicts
 pub mod Changes
 pub mod History
+pub mod Revisions
 pub mod Inputs
 pub mod Openings
 pub mod FeatureEdits

@@ -1,7 +1,8 @@
 -- What holds of stores and their edits: laws, each the clause of a function of its name.
-use Rattle.std.specs.Prelude.{◌≡◌, ℕ, false, List, [], ◌∷◌, ◌++◌, take, fold}
+use Rattle.std.specs.Prelude.{◌≡◌, ◌≢◌, ℕ, ◌≤◌, ◌<◌, false, List, [], ◌∷◌, ◌++◌, take, fold}
+use Rattle.std.specs.Prelude.{Some, None, if◌then◌else◌}
 use Rattle.cv_model.specs.declared.edit.Edit.{Edit}
-use Rattle.cv_model.specs.Layers.{Project, parts, deps}
+use Rattle.cv_model.specs.Layers.{Project, parts, deps, has_layer}
 use Rattle.cv_model.specs.Edits.{touches_any, step, version, revision, stamps}
 use Rattle.cv_store.specs.Stores.{StoreParts, project_of, revision_in, input_in, stamps_in}
 use Rattle.cv_store.specs.Answers.{IsEdited}
@@ -37,3 +38,25 @@ pub record IsBehind (project : Project) (edits : List Edit) (s : StoreParts) : T
 abbrev pub HistoryGoesOn : Type 0
 HistoryGoesOn = (project : Project) (edits : List Edit) (edit : Edit) (s t : StoreParts)
     → IsBehind project edits s → IsEdited s edit t → IsBehind project (edits ++ edit ∷ []) t
+
+-- a store behind some edits has for each layer of its project exactly the stamps behind these edits, and none
+-- for one that isn't there
+abbrev pub StampsAreOfEdits : Type 0
+StampsAreOfEdits = (project : Project) (edits : List Edit) (s : StoreParts) (id : ℕ)
+    → IsBehind project edits s
+    → stamps_in s id ≡ (if has_layer id (project_of s).layers then Some (stamps project edits id) else None)
+
+-- stores at two versions of one history that have equal stamps of a layer have equal inputs of it: what it is
+-- painted from, with its stamps
+abbrev pub EqualStampsEqualInputs : Type 0
+EqualStampsEqualInputs = (project : Project) (edits : List Edit) (m n id : ℕ) (s t : StoreParts)
+    → IsBehind project (take m edits) s → IsBehind project (take n edits) t
+    → stamps_in s id ≡ stamps_in t id → input_in s id ≡ input_in t id
+
+-- a revision above 0 that a layer had at one version and hasn't at a later one never returns, also where the
+-- layer was taken out and one with its id was added
+abbrev pub LeftRevisionsNeverReturn : Type 0
+LeftRevisionsNeverReturn = (project : Project) (edits : List Edit) (l m n id : ℕ) → l ≤ m → m ≤ n
+    → 0 < revision project (take l edits) id
+    → revision project (take m edits) id ≢ revision project (take l edits) id
+    → revision project (take n edits) id ≢ revision project (take l edits) id

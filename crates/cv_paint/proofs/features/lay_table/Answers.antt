@@ -1,5 +1,7 @@
 use Rattle.std.proofs.Common.{◌∙◌, arith}
+use Rattle.cv_paint.specs.Costs.{feature_cost}
 use Rattle.cv_paint.proofs.LayingLemmas.{lays_run, run_within}
+use Rattle.cv_paint.proofs.CostLemmas.{cost_run}
 use Rattle.cv_paint.proofs.features.lay_table.Goals as goal
 
 pub loop-at-preserved : goal.loop-at-preserved
@@ -9,4 +11,11 @@ loop-at-preserved g c = (
   run_within c.rows-rows.result.now c.run_from-run.result.now c.loop-at.at c.loop-at.invariant.2 c.run_from-run.ensures.same,
   lays_run c.args.view.now _ c.rows-rows.result.now c.run_from-run.result.now c.loop-at.at _ _ _ c.run_from-run.ensures.same
       c.loop-at.invariant.3 c.in_ok-lay_rows.ensures.laid,
+  omega (
+    arith,
+    cost_run (feature_cost c.args.view.now) c.rows-rows.result.now c.run_from-run.result.now c.loop-at.at
+        c.run_from-run.ensures.same,
+    c.loop-at.invariant.4,
+    c.in_ok-lay_rows.ensures.cost,
+  ),
 )

@@ -5,6 +5,7 @@ use Rattle.cv_model.specs.Views.{PixelGrid}
 use Rattle.cv_model.specs.Rasters.{row_of, pixels_of}
 use Rattle.cv_model.proofs.Rows.{pixels_more}
 use Rattle.cv_paint.specs.Finish.{masked}
+use Rattle.cv_paint.proofs.CostLemmas.{rows_first, row_paid}
 use Rattle.cv_paint.proofs.finish.put_rows.Goals as goal
 
 pub loop-j-init : goal.loop-j-init
@@ -13,6 +14,7 @@ loop-j-init g c = (
   c.in_ok-row.ensures.len ∙ ap (λ (v : PixelGrid). v.w) c.view.view_is,
   omega arith,
   sym (append-nil c.args.pixels.now),
+  rows_first c.args.view.now.h c.args.view.now.w c.args.steps.now,
 )
 
 pub loop-j-preserved : goal.loop-j-preserved
@@ -20,8 +22,11 @@ loop-j-preserved g c =
     let f = masked c.args.mask.now (g.C.Canvas.at c.args.canvas.now) in (
       c.loop-j.invariant.0,
       omega (arith, c.loop-j.invariant.1, c.poll.ensures.counts),
-      c.in_ok-put_row.ensures
+      c.in_ok-put_row.ensures.ok
           ∙ ap (λ (ps : List Rgba). ps ++ row_of c.args.view.now.w f c.loop-j.j) c.loop-j.invariant.2
           ∙ append_assoc c.args.pixels.now (pixels_of c.args.view.now.w c.loop-j.j f) (row_of c.args.view.now.w f c.loop-j.j)
           ∙ ap (λ (ps : List Rgba). c.args.pixels.now ++ ps) (sym (pixels_more c.args.view.now.w c.loop-j.j f)),
+      row_paid c.args.view.now.h c.args.view.now.w c.loop-j.j _ _ _
+          (omega (arith, c.loop-j-test.true, ap (λ (v : PixelGrid). v.h) c.view.view_is)) c.loop-j.invariant.3
+          c.in_ok-put_row.ensures.cost,
     )

@@ -1,4 +1,4 @@
-use Rattle.std.proofs.Common.{refl, subst, List}
+use Rattle.std.proofs.Common.{refl, ap, subst, List}
 use Rattle.std.specs.List.{list_any}
 use Rattle.cv_model.specs.Positions.{Position}
 use Rattle.cv_model.specs.Views.{centre_of}
@@ -6,6 +6,9 @@ use Rattle.cv_model.specs.Polygons.{is_inside}
 use Rattle.cv_model.specs.Pictures.{is_covered}
 use Rattle.cv_geom.specs.Runs.{AreRunsOf}
 use Rattle.cv_paint.proofs.LayingLemmas.{lays_where}
+use Rattle.std.proofs.Common.{length}
+use Rattle.cv_geom.specs.Runs.{edges_of}
+use Rattle.cv_paint.proofs.CostLemmas.{runs_found, runs_paid}
 use Rattle.cv_paint.proofs.layings.lay_fill.Goals as goal
 
 pub returns-clause-laid : goal.returns-clause-laid
@@ -16,3 +19,14 @@ returns-clause-laid g c =
     rw c.in-Some.is
     (lays_where c.args.view.now (λ p. is_covered p c.args.geometry.now) c.in-Some.colour c.in-Some.colour _ _ _ _ _
     refl c.whole_of-area.ensures.area c.as_slice.ensures are c.lay_runs.ensures.laid)
+
+pub returns-in_err-fill_runs-clause-cost : goal.returns-in_err-fill_runs-clause-cost
+returns-in_err-fill_runs-clause-cost g c =
+    runs_found c.args.view.now c.whole_of-area.result _ _ _ _ c.whole_of-area.ensures.area
+    (ap (λ (ps : List (List (List Position))). length (edges_of ps)) c.polygons-polygons.ensures) c.fill_runs.ensures.cost
+
+pub returns-clause-cost : goal.returns-clause-cost
+returns-clause-cost g c =
+    runs_paid c.args.view.now _ c.whole_of-area.result c.fill_runs.new.into _ _ _ _ _ _ c.whole_of-area.ensures.area
+    c.as_slice.ensures c.in_ok-fill_runs.ensures.runs (ap (λ (ps : List (List (List Position))). length (edges_of ps)) c.polygons-polygons.ensures)
+    c.fill_runs.ensures.cost c.lay_runs.ensures.cost

@@ -6,6 +6,9 @@ use Rattle.cv_model.specs.Polygons.{is_inside}
 use Rattle.cv_model.specs.Pictures.{is_covered}
 use Rattle.cv_geom.specs.Runs.{AreRunsOf}
 use Rattle.cv_paint.proofs.MaskLemmas.{covers_where}
+use Rattle.std.proofs.Common.{length, ap, arith}
+use Rattle.cv_geom.specs.Runs.{edges_of}
+use Rattle.cv_paint.proofs.CostLemmas.{runs_found, runs_paid, fill_paid}
 use Rattle.cv_paint.proofs.masks.cover_geometry.Goals as goal
 
 pub returns-clause-covered : goal.returns-clause-covered
@@ -15,3 +18,17 @@ returns-clause-covered g c =
     c.polygons-polygons.ensures c.in_ok-fill_runs.ensures.runs in
     covers_where c.args.view.now (λ p. is_covered p c.args.geometry.now) _ _ _ _ _ c.whole_of-area.ensures.area
     c.as_slice.ensures are c.cover_runs.ensures.covered
+
+pub returns-in_err-fill_runs-clause-cost : goal.returns-in_err-fill_runs-clause-cost
+returns-in_err-fill_runs-clause-cost g c =
+    let found = runs_found c.args.view.now c.whole_of-area.result _ _ _ _ c.whole_of-area.ensures.area
+    (ap (λ (ps : List (List (List Position))). length (edges_of ps)) c.polygons-polygons.ensures) c.fill_runs.ensures.cost in
+    omega (arith, fill_paid c.args.view.now c.args.geometry.now, found)
+
+pub returns-clause-cost : goal.returns-clause-cost
+returns-clause-cost g c =
+    let paid = runs_paid c.args.view.now _ c.whole_of-area.result c.fill_runs.new.into _ _ _ _ _ _ c.whole_of-area.ensures.area
+    c.as_slice.ensures c.in_ok-fill_runs.ensures.runs
+    (ap (λ (ps : List (List (List Position))). length (edges_of ps)) c.polygons-polygons.ensures) c.fill_runs.ensures.cost
+    c.cover_runs.ensures.cost in
+    omega (arith, fill_paid c.args.view.now c.args.geometry.now, paid)

@@ -1,4 +1,4 @@
-use Rattle.cv_paint.proofs.painted.paint.Given as goal
+use Rattle.cv_paint.proofs.whole.paint.Given as goal
 
 -- the count is of the blank ledger
 abbrev pub ghosts-paint_counted : goal.ghosts-paint_counted

@@ -1,0 +1,7 @@
+-- Lemmas on plays.
+pub mod PlayLemmas
+pub mod OneLemmas
+pub mod ScriptLemmas
+pub mod EnteredLemmas
+pub mod OthersLemmas
+pub mod WorkedPlays
