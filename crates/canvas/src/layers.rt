@@ -10,8 +10,8 @@ use std::alloc::Global;
 /// The most bytes of a project's file.
 const MOST_PROJECT: u64 = 16_777_216;
 
-/// The name of the layer at a place, from 0, of the project that bytes say. None where they say no such layer,
-/// or for want of memory.
+/// The name of the layer at a place, from 0, of the project that bytes say. None where they say no such
+/// layer, or for want of memory.
 fn name_at(alloc: Global, bytes: &[u8], place: u32) -> Option<Text>
     ensures { IfSome result (IsNameAt bytes.now place) }
 {
