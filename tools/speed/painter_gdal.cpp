@@ -1,4 +1,4 @@
-// Paints polygons into a picture of 512 by 512 pixels by GDAL's rasterizer.
+// Paints polygons by GDAL's rasterizer into a picture of as many pixels and map units as `words` begins with.
 #include <fstream>
 #include <gdal.h>
 #include <gdal_alg.h>
@@ -8,6 +8,8 @@
 
 int main() {
     GDALAllRegister();
+    int width, height;
+    std::ifstream("words") >> width >> height;
     std::vector<OGRGeometryH> polygons;
     std::ifstream file("given");
     std::string line;
@@ -20,18 +22,18 @@ int main() {
             return 1;
         polygons.push_back(polygon);
     }
-    GDALDatasetH image = GDALCreate(GDALGetDriverByName("MEM"), "", 512, 512, 1, GDT_Byte, nullptr);
-    double transform[] = {0, 1, 0, 512, 0, -1};
+    GDALDatasetH image = GDALCreate(GDALGetDriverByName("MEM"), "", width, height, 1, GDT_Byte, nullptr);
+    double transform[] = {0, 1, 0, double(height), 0, -1};
     GDALSetGeoTransform(image, transform);
     int band = 1;
     std::vector<double> ones(polygons.size(), 1);
     GDALRasterizeGeometries(image, 1, &band, polygons.size(), polygons.data(), nullptr, nullptr,
                             ones.data(), nullptr, nullptr, nullptr);
-    std::vector<unsigned char> pixels(512 * 512);
-    if (GDALRasterIO(GDALGetRasterBand(image, 1), GF_Read, 0, 0, 512, 512, pixels.data(), 512, 512,
-                     GDT_Byte, 0, 0))
+    std::vector<unsigned char> pixels(width * height);
+    if (GDALRasterIO(GDALGetRasterBand(image, 1), GF_Read, 0, 0, width, height, pixels.data(), width,
+                     height, GDT_Byte, 0, 0))
         return 1;
-    std::string picture = "P6\n512 512\n255\n";
+    std::string picture = "P6\n" + std::to_string(width) + " " + std::to_string(height) + "\n255\n";
     for (unsigned char pixel : pixels)
         picture += pixel ? std::string("\0\0\377", 3) : std::string("\377\377\377", 3);
     std::ofstream("picture") << picture;

@@ -8,11 +8,15 @@ use Rattle.cv_layer.specs.Layers.{RevisedCore}
 abbrev pub revision_of : Option RevisedCore → ℕ
 revision_of layer = option_map_or (λ l. l.revision) layer 0
 
+-- the stamp of a layer that is there
+abbrev pub stamp_of : RevisedCore → Stamp
+stamp_of layer = record { id = layer.core.id; revision = layer.revision }
+
 -- the stamps of an image of a layer with these mask and join layers: its own id and revision, then those of
 -- the mask layer and of the join layer where these are named
 abbrev pub stamps_of : RevisedCore → Option RevisedCore → Option RevisedCore → List Stamp
 stamps_of own mask join =
-    record { id = own.core.id; revision = own.revision }
+    stamp_of own
     ∷ option_to_list (option_map (λ id. record { id = id; revision = revision_of mask }) own.core.mask)
     ++ option_to_list (option_map (λ j. record { id = j.layer; revision = revision_of join }) own.core.join)
 

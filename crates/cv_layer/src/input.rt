@@ -1,8 +1,8 @@
 //! What a layer is painted from.
 
-ghost use Rattle.std.specs.Prelude.{◌≡◌, Option, option_map};
+ghost use Rattle.std.specs.Prelude.{◌≡◌, Option, option_map, IfSome, Some, slice_get, reverse};
 ghost use Rattle.std.specs.Option.{option_copied};
-ghost use Rattle.cv_layer.specs.Inputs.{revision_of, input_of, stamps_of, IsInput};
+ghost use Rattle.cv_layer.specs.Inputs.{revision_of, stamp_of, input_of, stamps_of, IsInput};
 ghost use Rattle.cv_layer.specs.Stamps.{stamp_list};
 
 use crate::layer::{Layer, SharedLayer};
@@ -95,6 +95,7 @@ impl LayerInput {
     /// The layer itself.
     pub fn layer(&self) -> &Layer
         ensures layer { result.now.core ≡ self.now.parts.own }
+        ensures stamped { slice_get self.now.stamps 0 ≡ Some (stamp_of result.now) }
         ensures kept { IsInput self.now }
     {
         self.layer.value()
@@ -102,7 +103,9 @@ impl LayerInput {
 
     /// The layer in whose polygons it is painted, if it is there.
     pub fn mask(&self) -> Option<&Layer>
-        ensures { option_map (λ l. l.core) (option_copied result) ≡ self.now.parts.mask }
+        ensures mask { option_map (λ l. l.core) (option_copied result) ≡ self.now.parts.mask }
+        ensures stamped { IfSome (option_copied result)
+            (λ mask. slice_get self.now.stamps 1 ≡ Some (stamp_of mask)) }
     {
         match &self.mask {
             Some(mask) => Some(mask.value()),
@@ -112,7 +115,9 @@ impl LayerInput {
 
     /// The layer that it takes joined texts from, if it is there.
     pub fn join(&self) -> Option<&Layer>
-        ensures { option_map (λ l. l.core) (option_copied result) ≡ self.now.parts.join }
+        ensures join { option_map (λ l. l.core) (option_copied result) ≡ self.now.parts.join }
+        ensures stamped { IfSome (option_copied result)
+            (λ join. slice_get (reverse self.now.stamps) 0 ≡ Some (stamp_of join)) }
     {
         match &self.join {
             Some(join) => Some(join.value()),

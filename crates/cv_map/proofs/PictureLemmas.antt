@@ -1,5 +1,5 @@
 -- The composition of a project's slots, each with its painting, is the project's picture.
-use Rattle.std.proofs.Common.{◌≡◌, ◌∙◌, ap, ap₂, sym, subst, true, List, map, Option, Result, Ok, Err, IfOk}
+use Rattle.std.proofs.Common.{◌≡◌, ◌∙◌, ap, ap₂, sym, subst, true, List, map, Option}
 use Rattle.cv_model.specs.declared.colour.Rgb.{Rgb}
 use Rattle.cv_model.specs.Layers.{Project, slots}
 use Rattle.cv_model.specs.Paintings.{Painting, SlotFrame, FrameParts, Composition, composed, slot_frame, frame_of}
@@ -28,11 +28,9 @@ module _ (project : Project) (view : PixelGrid) where
         subst (λ (f : FrameParts). IsComposition (record { frame = f; paintings = images })) (sym is)
         (slots_are_composition project view (λ k. true) images are)
 
-    -- and what is composed is the picture
-    pub composes : {E : Type 0} (input : Composition) (made : Result Composition E)
-        → input ≡ record { frame = frame; paintings = images } → IfOk made (λ m. m ≡ input)
-        → IfOk made (λ m. composed m ≡ picture project view)
-    composes input (Ok m) input_is made_is =
-        ap composed (made_is ∙ input_is ∙ ap (λ (f : FrameParts). record { frame = f; paintings = images }) is)
+    -- and what is composed of them is the picture
+    pub composes : (input : Composition) → input ≡ record { frame = frame; paintings = images }
+        → composed input ≡ picture project view
+    composes input input_is =
+        ap composed (input_is ∙ ap (λ (f : FrameParts). record { frame = f; paintings = images }) is)
         ∙ composes_all_slots project view images are
-    composes input (Err e) input_is made_is = tt

@@ -8,7 +8,7 @@
 mod picture;
 mod slots;
 
-pub use picture::{paint, paint_bytes};
+pub use picture::{compose_input, paint, paint_bytes};
 
 #[cfg(test)]
 mod tests;

@@ -12,14 +12,22 @@ use cv_model::{NoMemory, View};
 use cv_store::Store;
 use std::alloc::Global;
 
-/// The picture of a store's project at a view, with what it is composed of: an image of each layer that is
-/// visible and painted at the view's scale.
-pub fn paint(alloc: Global, store: &Store, view: &View) -> Result<Composed, NoMemory>
+/// What the picture of a store's project at a view is composed of: an image of each layer that is visible and
+/// painted at the view's scale, bottom first.
+pub fn compose_input(alloc: Global, store: &Store, view: &View) -> Result<ComposeInput, NoMemory>
     ensures { IfOk result (λ made. composed made ≡ picture (project_of store.now) view.now) }
 {
     let (slots, layers) = paint_slots(alloc, store, view)?;
     let frame = Frame::of(view.w, view.h, store.background(), slots);
-    compose(alloc, ComposeInput::of(frame, layers))
+    Ok(ComposeInput::of(frame, layers))
+}
+
+/// The picture of a store's project at a view, with what it is composed of.
+pub fn paint(alloc: Global, store: &Store, view: &View) -> Result<Composed, NoMemory>
+    ensures { IfOk result (λ made. composed made ≡ picture (project_of store.now) view.now) }
+{
+    let input = compose_input(alloc, store, view)?;
+    compose(alloc, input)
 }
 
 /// The bytes of that picture in the portable pixmap format.

@@ -1,7 +1,7 @@
 -- The slots and their images are what a composition keeps, and they make the picture.
 use Rattle.cv_store.specs.Stores.{project_of}
 use Rattle.cv_map.proofs.PictureLemmas.{frame_is, can_compose, composes}
-use Rattle.cv_map.proofs.picture.paint.Goals as goal
+use Rattle.cv_map.proofs.picture.compose_input.Goals as goal
 
 pub of-requires : goal.of-requires
 of-requires c =
@@ -19,4 +19,4 @@ returns c =
     (frame_is s c.args.view.now (record { lx2 = c.view.inside.lx2; ty2 = c.view.inside.ty2; u = c.view.inside.u; w = c.view.inside.w; h = c.view.inside.h })
     c.background.result c.in_ok-slots.slots c.of-frame.result c.of-frame.ensures
     c.view.view_is c.background.ensures c.in_ok-slots.ensures.slots)
-    c.in_ok-slots.ensures.layers c.of.result c.compose.result c.of.ensures c.compose.ensures
+    c.in_ok-slots.ensures.layers c.of.result c.of.ensures

@@ -1,0 +1,242 @@
+//! The same map in plain Rust: layers of polygons read, painted by runs in the order of their features, and
+//! composed into the file `picture`. The file `words` has width, height, xmin, ymax, the millionths to a
+//! pixel, the background, and then for each layer, bottom first, its file, its fill with alpha, and the
+//! number of its mode. Prints a line for reading, painting and composing: the microseconds, and the sum of
+//! the picture.
+//!
+//! It takes the form of all files for granted: a header, and in each line one POLYGON as the first field.
+use std::time::Instant;
+
+#[path = "../compose/planes.rs"]
+mod planes;
+use planes::{Rgb, Rgba, Slot, compose};
+
+type Point = (i64, i64);
+
+struct View {
+    width: usize,
+    height: usize,
+    /// The centre of the first pixel, in doubled millionths.
+    first: Point,
+    /// The side of a pixel, in doubled millionths.
+    side: i64,
+}
+
+// Reading
+
+/// The doubled millionths of a decimal of at most six places, and what stands behind it.
+fn decimal(text: &[u8]) -> (i64, &[u8]) {
+    let (negative, mut rest) = match text.split_first() {
+        Some((b'-', rest)) => (true, rest),
+        _ => (false, text),
+    };
+    let (mut number, mut places, mut point) = (0i64, 0, false);
+    while let Some((byte, behind)) = rest.split_first() {
+        match byte {
+            b'0'..=b'9' => {
+                number = 10 * number + i64::from(byte - b'0');
+                places += i32::from(point);
+            }
+            b'.' => point = true,
+            _ => break,
+        }
+        rest = behind;
+    }
+    let doubled = 2 * number * 10i64.pow((6 - places) as u32);
+    (if negative { -doubled } else { doubled }, rest)
+}
+
+fn ring(mut text: &[u8]) -> (Vec<Point>, &[u8]) {
+    let mut points = Vec::new();
+    loop {
+        let (x, rest) = decimal(&text[1..]);
+        let (y, rest) = decimal(&rest[1..]);
+        points.push((x, y));
+        text = rest;
+        if text[0] == b')' {
+            return (points, &text[1..]);
+        }
+    }
+}
+
+fn polygon(line: &[u8]) -> Vec<Vec<Point>> {
+    let open = line.iter().position(|byte| *byte == b'(').unwrap();
+    let mut text = &line[open + 1..];
+    let mut rings = Vec::new();
+    while text[0] == b'(' {
+        let (points, rest) = ring(text);
+        rings.push(points);
+        text = if rest[0] == b',' { &rest[1..] } else { rest };
+    }
+    rings
+}
+
+fn read(file: &str) -> Vec<Vec<Vec<Point>>> {
+    let text = std::fs::read(file).unwrap();
+    let lines = text.split(|byte| *byte == b'\n');
+    lines.skip(1).filter(|line| !line.is_empty()).map(polygon).collect()
+}
+
+// Painting
+
+/// The first row or column whose centre isn't before a place, so many sides from the first centre.
+fn first_at(distance: i64, side: i64, most: usize) -> usize {
+    (distance + side - 1).div_euclid(side).clamp(0, most as i64) as usize
+}
+
+/// Marks the first column that isn't left of an edge, in each row that it crosses.
+fn mark_edge(a: Point, b: Point, view: &View, marks: &mut Vec<(u32, u32)>) {
+    let (low, high) = if a.1 < b.1 { (a, b) } else { (b, a) };
+    let from = first_at(view.first.1 - high.1 + 1, view.side, view.height);
+    let end = first_at(view.first.1 - low.1 + 1, view.side, view.height);
+    if from >= end {
+        return;
+    }
+    let (dx, dy) = (i128::from(high.0 - low.0), i128::from(high.1 - low.1));
+    let centre = view.first.1 - from as i64 * view.side;
+    let over = i128::from(low.0 - view.first.0) * dy + dx * i128::from(centre - low.1);
+    let whole = dy * i128::from(view.side);
+    let (mut column, mut rest) = ((over + whole - 1).div_euclid(whole), (over + whole - 1).rem_euclid(whole));
+    let step = -dx * i128::from(view.side);
+    let (columns, part) = (step.div_euclid(whole), step.rem_euclid(whole));
+    for row in from..end {
+        marks.push((row as u32, column.clamp(0, view.width as i128) as u32));
+        column += columns;
+        rest += part;
+        if rest >= whole {
+            rest -= whole;
+            column += 1;
+        }
+    }
+}
+
+/// A fill with what a backdrop of each alpha needs: what is covered, in 255ths of alpha, and its reciprocal.
+struct Ink {
+    fill: Rgba,
+    covered: [u32; 256],
+    reciprocal: [u64; 256],
+}
+
+impl Ink {
+    fn of(fill: Rgba) -> Self {
+        let sa = u32::from(fill.a);
+        let mut ink = Ink { fill, covered: [0; 256], reciprocal: [0; 256] };
+        for below in 0..256 {
+            let covered = 255 * sa + below as u32 * (255 - sa);
+            ink.covered[below] = covered;
+            ink.reciprocal[below] = if covered == 0 { 0 } else { (1 << 44) / (2 * u64::from(covered)) + 1 };
+        }
+        ink
+    }
+
+    fn over(&self, below: Rgba) -> Rgba {
+        let (sa, ba) = (u32::from(self.fill.a), u32::from(below.a));
+        let (covered, reciprocal) = (self.covered[below.a as usize], self.reciprocal[below.a as usize]);
+        let channel = |cs: u8, cb: u8| {
+            let sum = 255 * sa * u32::from(cs) + ba * (255 - sa) * u32::from(cb);
+            ((u64::from(2 * sum + covered) * reciprocal) >> 44) as u8
+        };
+        Rgba {
+            r: channel(self.fill.r, below.r),
+            g: channel(self.fill.g, below.g),
+            b: channel(self.fill.b, below.b),
+            a: ((2 * covered + 255) / 510) as u8,
+        }
+    }
+}
+
+/// Over an opaque colour the quotient is by 255 alone.
+fn over_opaque(source: Rgba, pixels: &mut [Rgba]) {
+    let a = u16::from(source.a);
+    let near = |cs: u8, cb: u8| {
+        let sum = a * u16::from(cs) + (255 - a) * u16::from(cb) + 128;
+        ((sum + (sum >> 8)) >> 8) as u8
+    };
+    for p in pixels {
+        *p = Rgba { r: near(source.r, p.r), g: near(source.g, p.g), b: near(source.b, p.b), a: 255 };
+    }
+}
+
+fn lay(ink: &Ink, run: &mut [Rgba]) {
+    if ink.fill.a == 255 || run.iter().all(|p| p.a == 0) {
+        run.fill(ink.fill);
+    } else if run.iter().all(|p| p.a == 255) {
+        over_opaque(ink.fill, run);
+    } else {
+        for p in run {
+            *p = ink.over(*p);
+        }
+    }
+}
+
+fn paint(features: &[Vec<Vec<Point>>], fill: Rgba, view: &View) -> Vec<Rgba> {
+    let mut image = vec![Rgba::default(); view.width * view.height];
+    let (mut marks, ink) = (Vec::new(), Ink::of(fill));
+    for rings in features {
+        marks.clear();
+        for ring in rings {
+            let mut before = ring[ring.len() - 1];
+            for point in ring {
+                mark_edge(before, *point, view, &mut marks);
+                before = *point;
+            }
+        }
+        marks.sort_unstable();
+        for pair in marks.chunks_exact(2) {
+            let start = pair[0].0 as usize * view.width;
+            lay(&ink, &mut image[start + pair[0].1 as usize..start + pair[1].1 as usize]);
+        }
+    }
+    image
+}
+
+// The whole
+
+fn colour(word: &str) -> Rgba {
+    let byte = |at: usize| u8::from_str_radix(&word[at..at + 2], 16).unwrap();
+    Rgba { r: byte(0), g: byte(2), b: byte(4), a: if word.len() == 8 { byte(6) } else { 255 } }
+}
+
+fn sum_of(picture: &[Rgb]) -> u64 {
+    picture.iter().fold(0, |sum: u64, p| {
+        sum.wrapping_mul(31).wrapping_add(u64::from(p.r) + 256 * u64::from(p.g) + 65_536 * u64::from(p.b))
+    })
+}
+
+fn write(view: &View, picture: &[Rgb]) {
+    let mut bytes = format!("P6\n{} {}\n255\n", view.width, view.height).into_bytes();
+    bytes.extend(picture.iter().flat_map(|p| [p.r, p.g, p.b]));
+    std::fs::write("picture", bytes).unwrap();
+}
+
+fn main() {
+    let text = std::fs::read_to_string("words").unwrap();
+    let words: Vec<&str> = text.split_whitespace().collect();
+    let number = |at: usize| words[at].parse::<i64>().unwrap();
+    let unit = number(4);
+    let view = View {
+        width: number(0) as usize,
+        height: number(1) as usize,
+        first: (2_000_000 * number(2) + unit, 2_000_000 * number(3) - unit),
+        side: 2 * unit,
+    };
+    let layers: Vec<&[&str]> = words[6..].chunks(3).collect();
+    let start = Instant::now();
+    let read: Vec<_> = layers.iter().map(|layer| read(layer[0])).collect();
+    let read_at = start.elapsed();
+    let painted = |(features, layer): (&Vec<_>, &&[&str])| paint(features, colour(layer[1]), &view);
+    let images: Vec<_> = read.iter().zip(&layers).map(painted).collect();
+    let painted_at = start.elapsed();
+    let slots: Vec<_> = images
+        .iter()
+        .zip(&layers)
+        .map(|(image, layer)| Slot { mode: layer[2].parse().unwrap(), opacity: 255, image })
+        .collect();
+    let ground = colour(words[5]);
+    let picture = compose(Rgb { r: ground.r, g: ground.g, b: ground.b }, &slots);
+    let composed_at = start.elapsed();
+    write(&view, &picture);
+    println!("read {} 0", read_at.as_micros());
+    println!("paint {} 0", (painted_at - read_at).as_micros());
+    println!("compose {} {}", (composed_at - painted_at).as_micros(), sum_of(&picture));
+}
