@@ -1,5 +1,6 @@
 -- What standard error gets at each end of a command.
-use Rattle.std.specs.Prelude.{◌≡◌, ℕ, List, [], ◌∷◌, ◌++◌, codes, Option, Some, None, Ok, option_map, slice_get}
+use Rattle.std.specs.Prelude.{◌≡◌, ℕ, if◌then◌else◌, ◌==◌, List, [], ◌∷◌, ◌++◌, length, codes, Option, Some}
+use Rattle.std.specs.Prelude.{Ok, option_map, slice_get}
 use Rattle.std.specs.Io.KnownBytes.{Appends}
 use Rattle.canvas.specs.declared.lines.Names.{Names}
 use Rattle.cv_model.specs.ProjectFiles.{FileParts}
@@ -28,10 +29,14 @@ forms =
     codes "quick <csv> <out> <w> <h> <xmin> <ymin> <xmax> <ymax> <rrggbb>\ncheck <project>\n"
     ++ codes "paint <project> <canvas> <out>"
 
--- why bytes were refused, behind the name that was last read, and that behind the layer's name where it is known
-abbrev pub data_line : Option (List ℕ) → List ℕ → DataError → List ℕ
-data_line None read error = read ++ (codes ": " ++ (text_of_data error ++ 10 ∷ []))
-data_line (Some layer) read error = layer ++ (codes ", " ++ data_line None read error)
+-- why bytes were refused, behind the name that was last read
+abbrev pub file_line : List ℕ → DataError → List ℕ
+file_line read error = read ++ (codes ": " ++ (text_of_data error ++ 10 ∷ []))
+
+-- the same behind the layer's name, where it is known
+abbrev pub data_line : (layer read : List ℕ) → DataError → List ℕ
+data_line layer read error =
+    if length layer == 0 then file_line read error else layer ++ (codes ", " ++ file_line read error)
 
 -- a second line where it helps: the forms of the commands; the layer and the name last read, with why its bytes
 -- were refused; the name of the file that failed or isn't there; why a project was refused is shown by tests
@@ -39,7 +44,7 @@ abbrev pub IsSecond : End → Names → Option (List ℕ) → Option (List ℕ) 
 IsSecond Usage names old new = Appends old new (forms ++ 10 ∷ [])
 IsSecond (BadProject error) names old new = Unit {0}
 IsSecond (BadData place error) names old new =
-    Appends old new (data_line (option_map (λ layer. layer.now) names.layer) names.read.now error)
+    Appends old new (data_line names.layer.now names.read.now error)
 IsSecond (ReadFault which) names old new = Appends old new (names.read.now ++ 10 ∷ [])
 IsSecond (Missing which) names old new = Appends old new (names.read.now ++ 10 ∷ [])
 IsSecond (WriteFault (Output k)) names old new = Appends old new (names.written.now ++ 10 ∷ [])

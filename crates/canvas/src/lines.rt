@@ -1,6 +1,6 @@
 //! What the program leaves behind an end: its status, and the lines on standard error.
 
-ghost use Rattle.std.specs.Prelude.{◌≡◌, OnOk, option_map};
+ghost use Rattle.std.specs.Prelude.{◌≡◌, OnOk};
 ghost use Rattle.std.specs.Io.KnownBytes.{Appends};
 ghost use Rattle.std.specs.Process.{exit_status};
 ghost use Rattle.cv_open.specs.Ends.{status_of};
@@ -21,8 +21,8 @@ const FORMS: &str = "quick <csv> <out> <w> <h> <xmin> <ymin> <xmax> <ymax> <rrgg
 /// The files that a command was at when it ended.
 #[derive(Clone, Copy)]
 pub struct Names<'a> {
-    /// The name of the layer whose data were refused, where it is known.
-    pub layer: Option<&'a str>,
+    /// The name of the layer whose data were refused, or nothing.
+    pub layer: &'a str,
     /// The name that was last read, or nothing.
     pub read: &'a str,
     /// The name that was last written, or nothing.
@@ -33,7 +33,7 @@ impl<'a> Names<'a> {
     /// No name, for a command that was at no file.
     pub fn none() -> Names<'a> {
         Names {
-            layer: None,
+            layer: "",
             read: "",
             written: "",
         }
@@ -73,12 +73,13 @@ fn project_line<W: Write>(error: &ProjectError, name: &str, to: &mut W) -> io::R
 /// Writes why data were refused: the layer and the file, and the place in it.
 fn data_line<W: Write>(error: &DataError, names: &Names<'_>, to: &mut W) -> io::Result<()>
     ensures { OnOk result (Appends (W.contents to.old) (W.contents to.new)
-        (data_line (option_map (λ layer. layer.now) names.now.layer) names.now.read.now error.now)) }
+        (data_line names.now.layer.now names.now.read.now error.now)) }
 {
-    let read = names.read;
-    match names.layer {
-        Some(layer) => writeln!(to, "{layer}, {read}: {error}"),
-        None => writeln!(to, "{read}: {error}"),
+    let (layer, read) = (names.layer, names.read);
+    if layer.is_empty() {
+        writeln!(to, "{read}: {error}")
+    } else {
+        writeln!(to, "{layer}, {read}: {error}")
     }
 }
 

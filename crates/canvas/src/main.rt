@@ -75,7 +75,7 @@ fn main(rt: HostRuntime) -> ExitCode {
     let end = run(&rt, rt.alloc(), words, shelf, tray, out, &Open);
     let layer = refused_layer(&rt, words, &end);
     let names = Names {
-        layer: layer.as_ref().map(Text::as_str),
+        layer: layer.as_ref().map_or("", Text::as_str),
         read: shelf.last(),
         written: tray.last(),
     };

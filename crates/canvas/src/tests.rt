@@ -137,7 +137,7 @@ fn a_writer_that_fails_is_a_fault(rt: HostRuntime) -> Result<(), Fail> {
 // What standard error gets at an end, behind a last file to read and one to write.
 fn told(alloc: Global, end: &End) -> Vec<u8> {
     let names = Names {
-        layer: None,
+        layer: "",
         read: "sq.csv",
         written: "sq.ppm",
     };
@@ -174,7 +174,7 @@ fn refused_data_has_its_file_and_its_place(rt: HostRuntime) -> Result<(), Fail> 
 #[test]
 fn refused_data_has_its_layer(rt: HostRuntime) -> Result<(), Fail> {
     let names = Names {
-        layer: Some("roads"),
+        layer: "roads",
         read: "roads.csv",
         written: "",
     };
