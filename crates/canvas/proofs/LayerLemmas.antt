@@ -1,8 +1,7 @@
 -- The name of a layer is that of the bytes of a project.
-use Rattle.std.proofs.Common.{◌≡◌, ◌∙◌, sym, ap, ℕ, List, Option, Some, None, Result, Ok, option_map, slice_get}
+use Rattle.std.proofs.Common.{◌≡◌, ◌∙◌, sym, ap, ℕ, List, Option, Some, None, Ok, option_map, slice_get}
 use Rattle.std.specs.Prelude.{IfSome}
 use Rattle.cv_model.specs.ProjectFiles.{FileParts}
-use Rattle.cv_project.specs.declared.error.ProjectError.{ProjectError}
 use Rattle.cv_open.specs.Opened.{project_in}
 use Rattle.canvas.specs.Lines.{IsNameAt}
 
