@@ -1,5 +1,5 @@
 //! The real files, as a shelf and a tray. They tell nothing of content, count each failure of the system, and
-//! keep the name that they were last given.
+//! keep the name that they were last given. A shelf may say which file it reads.
 
 ghost use Rattle.std.specs.Prelude.{false, ◌≡◌, ◌≢◌, ◌+◌, ◌≤◌, min, [], length, take, OnOk, IfSome};
 ghost use Rattle.cv_outside.specs.Counts.{Rose};
@@ -8,24 +8,26 @@ ghost use Rattle.cv_outside.specs.Reads.{ReadCause};
 use cv_model::NoMemory;
 use cv_outside::{ReadEnd, Shelf, Tray, TrayEnd};
 use std::alloc::Global;
-use std::io::{ErrorKind, Read};
+use std::io::{ErrorKind, Read, Write};
 use std::rt::Files;
 use std::{fs, io};
 
 /// The files of the system, to be read.
 #[derive(Drop)]
-pub struct FileShelf<'a, R> {
+pub struct FileShelf<'a, R, P> {
     files: &'a R,
+    progress: Option<P>,
     last: String,
     faults: u64,
     misses: u64,
 }
 
-impl<'a, R: Files> FileShelf<'a, R> {
-    /// The files that this runtime reaches.
-    pub fn new(files: &'a R, alloc: Global) -> Self {
+impl<'a, R: Files, P: Write + Drop> FileShelf<'a, R, P> {
+    /// The files that this runtime reaches. Before each is read, its name is told as a line on `progress`.
+    pub fn new(files: &'a R, alloc: Global, progress: Option<P>) -> Self {
         FileShelf {
             files,
+            progress,
             last: String::new(alloc),
             faults: 0,
             misses: 0,
@@ -35,6 +37,16 @@ impl<'a, R: Files> FileShelf<'a, R> {
     /// The name that was last asked, or nothing.
     pub fn last(&self) -> &str {
         self.last.as_str()
+    }
+
+    /// Says which file is read, as far as the writer takes it.
+    fn say(&mut self, name: &str)
+        ensures faults { self.new.faults ≡ self.old.faults }
+        ensures misses { self.new.misses ≡ self.old.misses }
+    {
+        if let Some(to) = &mut self.progress {
+            let _ = writeln!(to, "reading {name}");
+        }
     }
 
     /// Counts an answer: a miss for an absent file, a fault for a failure.
@@ -106,7 +118,7 @@ fn unopened(kind: ErrorKind) -> ReadEnd
     }
 }
 
-impl<'a, R: Files> Shelf for FileShelf<'a, R> {
+impl<'a, R: Files, P: Write + Drop> Shelf for FileShelf<'a, R, P> {
     ghost use Rattle.std.specs.Prelude.{None, []};
 
     ghost tells = { λ _. false };
@@ -124,6 +136,7 @@ impl<'a, R: Files> Shelf for FileShelf<'a, R> {
         if keep(&mut self.last, name).is_err() {
             return ReadEnd::NoMemory;
         }
+        self.say(name);
         let file = match fs::open(self.files, name) {
             Ok(file) => file,
             Err(error) => return self.refuse(unopened(error.kind())),

@@ -3,10 +3,12 @@
 
 mod expected;
 mod files;
+mod layers;
 mod lines;
 mod output;
 
 use crate::files::{FileShelf, FileTray};
+use crate::layers::layer_name;
 use crate::lines::{Names, conclude};
 use crate::output::Output;
 use cv_model::{Sequence, Text};
@@ -14,7 +16,9 @@ use cv_open::End;
 use cv_outside::Open;
 use cv_top::run;
 use std::alloc::{AllocError, Global};
+use std::io::IsTerminal;
 use std::process::ExitCode;
+use std::rt::Files;
 use std::{env, io};
 
 /// The words behind the program's name. A word that isn't UTF-8 makes none of them a form.
@@ -37,26 +41,41 @@ fn end_of_words(kind: io::ErrorKind) -> End {
     }
 }
 
+/// The name of the layer whose data were refused at this end, where the words name a project. `quick` names
+/// none.
+fn refused_layer<R: Files + AllocGlobal>(files: &R, words: &[Text], end: &End) -> Option<Text> {
+    let alloc = files.alloc();
+    let shelf = &mut FileShelf::new(files, files.alloc(), None::<Vec<u8>>);
+    match (words, end) {
+        ([command, project, ..], End::BadData(place, _)) if command.as_str() != "quick" => {
+            layer_name(alloc, shelf, project.as_str(), *place)
+        }
+        _ => None,
+    }
+}
+
 fn main(rt: HostRuntime) -> ExitCode {
     let errors = rt.stderr();
     let to = &mut io::writer(&errors);
     let words = match words(&rt) {
         Ok(words) => words,
-        Err(end) => {
-            let names = Names {
-                read: "",
-                written: "",
-            };
-            return conclude(&end, &names, to);
-        }
+        Err(end) => return conclude(&end, &Names::none(), to),
+    };
+    let words = words.as_slice();
+    let progress = if errors.is_terminal() {
+        Some(io::writer(&errors))
+    } else {
+        None
     };
     let (shelf, tray) = (
-        &mut FileShelf::new(&rt, rt.alloc()),
+        &mut FileShelf::new(&rt, rt.alloc(), progress),
         &mut FileTray::new(&rt, rt.alloc()),
     );
     let out = &mut Output::new(io::writer(&rt));
-    let end = run(&rt, rt.alloc(), words.as_slice(), shelf, tray, out, &Open);
+    let end = run(&rt, rt.alloc(), words, shelf, tray, out, &Open);
+    let layer = refused_layer(&rt, words, &end);
     let names = Names {
+        layer: layer.as_ref().map_or("", Text::as_str),
         read: shelf.last(),
         written: tray.last(),
     };

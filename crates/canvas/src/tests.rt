@@ -1,7 +1,8 @@
 //! The command over real files, a writer that fails, and the lines on standard error.
 use crate::end_of_words;
-use crate::expected::expected;
+use crate::expected::expected_at;
 use crate::files::{FileShelf, FileTray};
+use crate::layers::layer_name;
 use crate::lines::{Names, conclude};
 use crate::output::Output;
 use cv_dtext::TextError;
@@ -30,7 +31,7 @@ fn play<R: Files + Print + AllocGlobal>(rt: &R, line: &str) -> End {
         Ok(words) => run_once(
             rt.alloc(),
             words.as_slice(),
-            &mut FileShelf::new(rt, rt.alloc()),
+            &mut FileShelf::new(rt, rt.alloc(), None::<Vec<u8>>),
             &mut FileTray::new(rt, rt.alloc()),
             &mut Output::new(io::writer(rt)),
         ),
@@ -136,6 +137,7 @@ fn a_writer_that_fails_is_a_fault(rt: HostRuntime) -> Result<(), Fail> {
 // What standard error gets at an end, behind a last file to read and one to write.
 fn told(alloc: Global, end: &End) -> Vec<u8> {
     let names = Names {
+        layer: "",
         read: "sq.csv",
         written: "sq.ppm",
     };
@@ -166,6 +168,21 @@ fn refused_data_has_its_file_and_its_place(rt: HostRuntime) -> Result<(), Fail> 
     let end = End::BadData(1, DataError::Grid(GridError::TooFew(3)));
     let want = "bad data in layer 1\nsq.csv: only 3 values\n";
     assert_eq!(rt; told(rt.alloc(), &end).as_slice(), want.as_bytes());
+    Ok(())
+}
+
+#[test]
+fn refused_data_has_its_layer(rt: HostRuntime) -> Result<(), Fail> {
+    let names = Names {
+        layer: "roads",
+        read: "roads.csv",
+        written: "",
+    };
+    let mut told = Vec::new(rt.alloc());
+    let end = End::BadData(0, DataError::Text(TextError::Uneven(17)));
+    let _ = conclude(&end, &names, &mut told);
+    let want = "bad data in layer 0\nroads, roads.csv: another number of fields in record 17\n";
+    assert_eq!(rt; told.as_slice(), want.as_bytes());
     Ok(())
 }
 
@@ -214,19 +231,77 @@ fn each_place_has_its_own_expectation(rt: HostRuntime) -> Result<(), Fail> {
         ("layers[2].style.kind", style),
     ];
     for (path, want) in rows {
-        assert_eq!(rt; expected(path), want);
+        let found = format!(in rt.alloc(); "{}", expected_at(path))?;
+        assert_eq!(rt; found.as_str(), want);
     }
     Ok(())
 }
 
 #[test]
-fn an_end_has_its_status(rt: HostRuntime) -> Result<(), Fail> {
-    let names = Names {
-        read: "",
-        written: "",
-    };
+fn each_number_has_its_range(rt: HostRuntime) -> Result<(), Fail> {
+    let rows = [
+        (
+            "layers[0].mask",
+            "a layer's id, a whole number from 1 to 4294967295",
+        ),
+        (
+            "canvases[0].extent[1]",
+            "a decimal from -1000000000 to 1000000000",
+        ),
+        (
+            "layers[0].scales.least",
+            "a decimal from 0 to 1000000000, the least not above the greatest",
+        ),
+        (
+            "layers[0].style.stops",
+            "a list of 1 to 256 stops whose values ascend",
+        ),
+        (
+            "canvases[3].height",
+            "a whole number from 1 to 4096, and at most 2097152 pixels in all",
+        ),
+    ];
+    for (path, want) in rows {
+        let found = format!(in rt.alloc(); "{}", expected_at(path))?;
+        assert_eq!(rt; found.as_str(), want);
+    }
+    Ok(())
+}
+
+// A shelf says which file it reads, where it has a writer.
+#[test]
+fn a_shelf_says_what_it_reads(rt: HostRuntime) -> Result<(), Fail> {
     let mut told = Vec::new(rt.alloc());
-    let code = conclude(&End::Usage, &names, &mut told);
+    let mut shelf = FileShelf::new(&rt, rt.alloc(), Some(&mut told));
+    assert_eq!(rt;
+        layer_name(rt.alloc(), &mut shelf, "none.json", 0).is_none(),
+        true
+    );
+    drop(shelf);
+    assert_eq!(rt; told.as_slice(), b"reading none.json\n".as_slice());
+    Ok(())
+}
+
+const PROJECT: &str =
+    "{\"version\":1,\"background\":\"ffffff\",\"canvases\":[],\"layers\":[{\"id\":7,\
+    \"name\":\"roads\",\"source\":{\"kind\":\"text\",\"file\":\"roads.csv\"},\"style\":{\"kind\":\"single\",\
+    \"symbol\":{}}}]}";
+
+#[test]
+fn a_layer_has_the_name_that_its_project_says(rt: HostRuntime) -> Result<(), Fail> {
+    fs::write(&rt, "p.json", PROJECT)?;
+    let mut shelf = FileShelf::new(&rt, rt.alloc(), None::<Vec<u8>>);
+    let name = layer_name(rt.alloc(), &mut shelf, "p.json", 0);
+    assert_eq!(rt; name.as_ref().map(Text::as_str), Some("roads"));
+    let name = layer_name(rt.alloc(), &mut shelf, "p.json", 1);
+    assert!(rt; name.is_none());
+    Ok(())
+}
+
+#[test]
+fn an_end_has_its_status(rt: HostRuntime) -> Result<(), Fail> {
+    let mut told = Vec::new(rt.alloc());
+    let code = conclude(&End::Usage, &Names::none(), &mut told);
     assert_eq!(rt; code, ExitCode::from(2));
     Ok(())
 }
