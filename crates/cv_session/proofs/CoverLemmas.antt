@@ -35,7 +35,7 @@ use Rattle.cv_session.specs.Plays.{claims_next, is_of_held, fails_work, fails_in
 use Rattle.cv_session.specs.Entered.{MayDo}
 use Rattle.cv_session.specs.HeldLaws.{AloneFindsTasks}
 use Rattle.cv_session.proofs.EnteredLemmas.{act_may, done_may, work_may}
-use Rattle.cv_session.proofs.PlayLemmas.{Silently, turns, refuses, begins, lets, overtakes, ends as finishes, ends_badly, silently, same_some}
+use Rattle.cv_session.proofs.PlayLemmas.{Silently, turns, refuses, begins, lets, ends as finishes, ends_badly, silently, same_some}
 use Rattle.cv_session.proofs.ScriptLemmas.{first_of}
 use Rattle.cv_session.proofs.WriteLemmas.{state_silent, state_next}
 use Rattle.cv_session.proofs.HeldLemmas.{is_delivery, claim_no_delivery, act_no_delivery}
@@ -425,7 +425,6 @@ covers_silent (turns m x) f = f
 covers_silent (refuses n rest why c e) f = f
 covers_silent (begins n rest m c e g x) f = f
 covers_silent {a} (lets m t ts e x g) f = covers_tail a.state a.held ts t e g f
-covers_silent {a} (overtakes t ts e o) f = covers_tail a.state a.held ts t e (first_of _ _ o) f
 covers_silent (finishes w m e g) f = f
 covers_silent (ends_badly w m e g) f = f
 

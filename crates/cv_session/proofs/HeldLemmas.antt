@@ -33,7 +33,7 @@ use Rattle.cv_session.specs.Entered.{IsClaim, IsViewed, MayDo, MayAct}
 use Rattle.cv_session.specs.HeldLaws.{Owes, AreApart, HeldTasksAreOwed}
 use Rattle.cv_session.proofs.EnteredLemmas.{act_may, done_may, work_may}
 use Rattle.cv_session.proofs.WriteLemmas.{state_silent, state_next}
-use Rattle.cv_session.proofs.PlayLemmas.{Silently, turns, refuses, begins, lets, overtakes, ends, ends_badly, silently, same_some}
+use Rattle.cv_session.proofs.PlayLemmas.{Silently, turns, refuses, begins, lets, ends, ends_badly, silently, same_some}
 use Rattle.cv_session.proofs.ScriptLemmas.{from_some, first_of}
 
 -- ---- what is owed stays so, but for its own delivery
@@ -411,7 +411,6 @@ holds_silent (turns m x) h = h
 holds_silent (refuses n rest why c e) h = h
 holds_silent (begins n rest m c e f x) h = h
 holds_silent {a} (lets m t ts e x g) h = holds_tail a.state a.held ts t e h
-holds_silent {a} (overtakes t ts e o) h = holds_tail a.state a.held ts t e h
 holds_silent (ends w m e g) h = h
 holds_silent (ends_badly w m e g) h = h
 

@@ -8,3 +8,4 @@ pub mod WorkedPlays
 pub mod WriteLemmas
 pub mod HeldLemmas
 pub mod CoverLemmas
+pub mod WorkedOthers

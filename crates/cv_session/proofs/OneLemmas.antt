@@ -19,7 +19,7 @@ use Rattle.cv_session.specs.Plays.{act_of, planned_next, planned_held, planned_w
 use Rattle.cv_session.specs.Plays.{Plays, stops, quiet, own, failed, other}
 use Rattle.cv_session.specs.Follows.{at_first, IsThrough, Follows}
 use Rattle.cv_session.specs.Laws.{HasMemory, OneJournalFollows}
-use Rattle.cv_session.proofs.PlayLemmas.{Silently, turns, refuses, begins, lets, overtakes, ends, ends_badly, silently}
+use Rattle.cv_session.proofs.PlayLemmas.{Silently, turns, refuses, begins, lets, ends, ends_badly, silently}
 
 -- ---- the play of caller 0 alone, by so many steps
 
@@ -76,7 +76,6 @@ knows_silent (turns m l) k = k
 knows_silent (refuses n rest why c e) k = refl
 knows_silent (begins n rest m c e g l) k = k
 knows_silent (lets m t ts e l h) k = k
-knows_silent (overtakes t ts e o) k = k
 knows_silent (ends w m e h) k = refl
 knows_silent (ends_badly w m e h) k = refl
 

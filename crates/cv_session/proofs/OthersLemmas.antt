@@ -33,6 +33,10 @@ others_may_go_on left o views script n xs ys refused f g = record {
   plays = joined ys (passed_over ys f.last) f.plays (others_play n ys f.last g);
   is_before = record { mode = mode_same ys f.last ∙ f.is_before.mode; commands = commands_same ys f.last ∙ f.is_before.commands };
   refused_are = refused_same ys f.last ∙ f.refused_are;
+  before = f.before;
+  cut = f.cut;
+  script_is = f.script_is;
+  wrote = f.wrote;
 }
 
 tasks_played : {n : ℕ} {a b : Play} {es : List Entry} → Plays n a es b

@@ -1,5 +1,5 @@
 -- Plays: how they join, and the silent steps by their kinds.
-use Rattle.std.proofs.Common.{◌≡◌, ◌⊎◌, inl, inr, refl, ap, sym, ℕ, suc, Bool, true, false, if◌then◌else◌}
+use Rattle.std.proofs.Common.{◌≡◌, ◌⊎◌, inl, inr, refl, ap, sym, ℕ, suc, Bool, true, false, ◌&&◌, if◌then◌else◌}
 use Rattle.std.proofs.Common.{List, [], ◌∷◌, ◌++◌, length, slice_get, Option, Some, None, is_some, subst}
 use Rattle.cv_event.specs.declared.entry.Entry.{Entry}
 use Rattle.cv_event.specs.declared.entry.How.{How}
@@ -17,7 +17,7 @@ use Rattle.cv_script.specs.declared.script.Command.TheVariants as command
 use Rattle.std.specs.Option.{option_map_or}
 use Rattle.cv_script.specs.declared.script.Numbered.{Numbered}
 use Rattle.cv_session.specs.Responses.{Response, Does, Refuses, Gives, Waits, last_job, unless_ended, ready_of, saves, response, job_of_task}
-use Rattle.cv_session.specs.Plays.{Awaited, Mode, Opens, Begins, GivesOne, GivesAll, Works, Closes, Play, knowing, turned}
+use Rattle.cv_session.specs.Plays.{Awaited, Mode, Opens, Begins, GivesOne, GivesAll, Works, Closes, Play, knowing, turned, letting}
 use Rattle.cv_session.specs.Plays.{refusing, begun, begun_next, let_go, given_all, waited, is_overtaken, worked}
 use Rattle.cv_session.specs.Plays.{file_of, silent_in, silent, Plays, stops, quiet, own, failed, other}
 
@@ -96,8 +96,7 @@ pub data Silently (a : Play) : Play → Type 0 where
       → IsSilent (response a.state (length a.held) n.command) → file_of n.command ≡ None → IsLineOf (line_of m) n.line
       → Silently a (record a { commands = rest; mode = m })
   lets : (m : Mode) (t : Task) (ts : List Task) → a.held ≡ t ∷ ts → IsLineOf (line_of m) (line_of a.mode) → is_some (how a.state (job_of_task t)) ≡ true
-      → Silently a (record a { held = ts; mode = m })
-  overtakes : (t : Task) (ts : List Task) → a.held ≡ t ∷ ts → is_overtaken t a ≡ true → Silently a (record a { held = ts })
+      → Silently a (letting m ts a)
   ends : (w : Awaited) → a.mode ≡ Works w → a.held ≡ [] → is_some (how a.state w.job) ≡ true → Silently a (knowing (turned Begins a))
   ends_badly : (w : Awaited) → a.mode ≡ Works w → a.held ≡ [] → is_some (how a.state w.job) ≡ true
       → Silently a (refusing w.line reason.EndedNoMemory (turned Begins a))
@@ -122,7 +121,7 @@ next_kind [] a b e h = to _ b h (turns Closes (inl refl))
 next_kind (n ∷ rest) a b e h = begun_kind n rest _ a b e refl h
 
 compose_kind : (m : Mode) (j : ℕ) (ts : List Task) (a b : Play) (x : Bool) → a.held ≡ Compose j ∷ ts → IsLineOf (line_of m) (line_of a.mode)
-    → is_some (how a.state j) ≡ x → (if x then Some (record a { held = ts; mode = m }) else None) ≡ Some b → Silently a b
+    → is_some (how a.state j) ≡ x → (if x then Some (letting m ts a) else None) ≡ Some b → Silently a b
 compose_kind m j ts a b true e l i h = to _ b h (lets m (Compose j) ts e l i)
 compose_kind m j ts a b false e l i h = absurd cc
 
@@ -141,14 +140,18 @@ waited_kind w (Some how_of.Finished) a b m e o h = to _ b h (ends w m e (ap is_s
 waited_kind w (Some how_of.Cancelled) a b m e o h = to _ b h (ends w m e (ap is_some o))
 waited_kind w (Some how_of.NoMemory) a b m e o h = to _ b h (ends_badly w m e (ap is_some o))
 
-overtaken_kind : (t : Task) (ts : List Task) (a b : Play) (x : Bool) → a.held ≡ t ∷ ts → is_overtaken t a ≡ x
-    → (if x then Some (record a { held = ts }) else None) ≡ Some b → Silently a b
-overtaken_kind t ts a b true e o h = to _ b h (overtakes t ts e o)
-overtaken_kind t ts a b false e o h = absurd cc
+first_true : (x y : Bool) → (x && y) ≡ true → x ≡ true
+first_true true y h = refl
+first_true false y h = absurd cc
+
+overtaken_kind : (w : Awaited) (t : Task) (ts : List Task) (a b : Play) (x : Bool) → a.held ≡ t ∷ ts → IsLineOf w.line (line_of a.mode)
+    → is_overtaken t a ≡ x → (if x then Some (letting (Works w) ts a) else None) ≡ Some b → Silently a b
+overtaken_kind w t ts a b true e l o h = to _ b h (lets (Works w) t ts e l (first_true _ _ o))
+overtaken_kind w t ts a b false e l o h = absurd cc
 
 worked_kind : (w : Awaited) (ts : List Task) (a b : Play) → a.mode ≡ Works w → a.held ≡ ts → worked w ts a ≡ Some b → Silently a b
 worked_kind w [] a b m e h = waited_kind w _ a b m e refl h
-worked_kind w (t ∷ ts) a b m e h = overtaken_kind t ts a b _ e refl h
+worked_kind w (t ∷ ts) a b m e h = overtaken_kind w t ts a b _ e (inr (sym (ap line_of m))) refl h
 
 kind_in : (m : Mode) (a b : Play) → a.mode ≡ m → silent_in m a ≡ Some b → Silently a b
 kind_in (Opens c []) a b e h = to _ b h (turns Begins (inl refl))

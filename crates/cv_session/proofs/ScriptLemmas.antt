@@ -27,7 +27,6 @@ use Rattle.cv_event.proofs.TextLemmas.{text_and_edits_tell_journal}
 use Rattle.cv_script.specs.declared.script.Command.{Command}
 use Rattle.cv_script.specs.declared.script.Command.TheVariants as command
 use Rattle.cv_script.specs.declared.script.Numbered.{Numbered}
-use Rattle.cv_script.specs.Scripts.{AscendFrom, IsScript}
 use Rattle.cv_session.specs.Responses.{last_job, claimed, response, done_by, fate_at, edit_reason}
 use Rattle.cv_session.specs.Plays.{Awaited, Mode, Opens, Begins, GivesOne, GivesAll, Works, Closes, Play, act_of}
 use Rattle.cv_session.specs.Plays.{planned_next, planned_held, planned_work, planned_in, planned, claims, claims_next, fails_in, fails, passed, entered, refusals, picture_by, through, next_in, next, entry_by, is_of_worker}
@@ -36,7 +35,7 @@ use Rattle.cv_session.specs.Follows.{Follows}
 use Rattle.cv_session.specs.Laws.{edit_in, edits_in, EditsAreOfScript, ScriptAndTextTellJournal}
 use Rattle.cv_session.specs.Entered.{IsClaim, IsViewed, MayAct}
 use Rattle.cv_session.proofs.EnteredLemmas.{act_may}
-use Rattle.cv_session.proofs.PlayLemmas.{line_of, IsLineOf, IsSilent, Silently, turns, refuses, begins, lets, overtakes, ends, ends_badly, silently, same_some}
+use Rattle.cv_session.proofs.PlayLemmas.{line_of, IsLineOf, IsSilent, Silently, turns, refuses, begins, lets, ends, ends_badly, silently, same_some}
 
 -- ---- acts that no command has: of tasks, and of the first views
 
@@ -246,7 +245,6 @@ edits_silent {a} (refuses n rest why c e) =
     sym (edits_more n a.commands rest None c (no_edit_silent a.state (length a.held) n.command (subst IsSilent (sym e) tt)))
 edits_silent {a} (begins n rest m c e g l) = sym (edits_more n a.commands rest None c (no_edit_silent a.state (length a.held) n.command e))
 edits_silent (lets m t ts e l h) = refl
-edits_silent (overtakes t ts e o) = refl
 edits_silent (ends w m e h) = refl
 edits_silent (ends_badly w m e h) = refl
 
@@ -305,7 +303,6 @@ read_silent (turns m l) = refl
 read_silent (refuses n rest why c e) = refl
 read_silent (begins n rest m c e g l) = refl
 read_silent (lets m t ts e l h) = refl
-read_silent (overtakes t ts e o) = refl
 read_silent (ends w m e h) = refl
 read_silent (ends_badly w m e h) = refl
 
@@ -330,15 +327,15 @@ read_played (other a c e es low high is r) =
 
 -- the refused lines and the commands have lines of a script, and a line was seen that was read
 abbrev pub IsLine : ℕ → Refused → Type 0
-IsLine read r = (r.line ≤ 100000) × (r.seen ≤ read)
+IsLine read r = IsShort r.line × (r.seen ≤ read)
 
 abbrev pub IsInScript : Numbered → Type 0
-IsInScript n = n.line ≤ 100000
+IsInScript n = IsShort n.line
 
 pub record Fits (a : Play) : Type 0 where
   pub refused : AllByRecursion (IsLine a.read) a.refused
   pub commands : AllByRecursion IsInScript a.commands
-  pub line : line_of a.mode ≤ 100000
+  pub line : IsShort (line_of a.mode)
 
 lines_append : (read : ℕ) (xs ys : List Refused) → AllByRecursion (IsLine read) xs → AllByRecursion (IsLine read) ys → AllByRecursion (IsLine read) (xs ++ ys)
 lines_append read [] ys f g = g
@@ -351,7 +348,7 @@ lines_later m n (x ∷ xs) l f = ((f.0.0, omega (arith, l, f.0.1)), lines_later 
 split_lines : (n : Numbered) (cs rest : List Numbered) → cs ≡ n ∷ rest → AllByRecursion IsInScript cs → IsInScript n × AllByRecursion IsInScript rest
 split_lines n cs rest e f = subst (AllByRecursion IsInScript) e f
 
-low : (x y : ℕ) → IsLineOf x y → y ≤ 100000 → x ≤ 100000
+low : (x y : ℕ) → IsLineOf x y → IsShort y → IsShort x
 low x y l h = ⊎_elim (λ e. omega (arith, e)) (λ e. omega (arith, e, h)) l
 
 fits_silent : {a b : Play} → Silently a b → Fits a → Fits b
@@ -363,7 +360,6 @@ fits_silent {a} (begins n rest m c e g l) f =
     let cs = split_lines n a.commands rest c f.commands in
     record { refused = f.refused; commands = cs.1; line = low _ _ l cs.0 }
 fits_silent {a} (lets m t ts e l h) f = record { refused = f.refused; commands = f.commands; line = low _ _ l f.line }
-fits_silent {a} (overtakes t ts e o) f = record { refused = f.refused; commands = f.commands; line = f.line }
 fits_silent {a} (ends w m e h) f = record { refused = f.refused; commands = f.commands; line = omega arith }
 fits_silent {a} (ends_badly w m e h) f = record {
   refused = lines_append a.read a.refused _ f.refused ((rw (ap line_of m) at f.line, omega arith), tt);
@@ -371,12 +367,12 @@ fits_silent {a} (ends_badly w m e h) f = record {
   line = omega arith;
 }
 
-reason_fits : (line read : ℕ) (o : Option Reason) → line ≤ 100000
+reason_fits : (line read : ℕ) (o : Option Reason) → IsShort line
     → AllByRecursion (IsLine read) (option_to_list (option_map (λ why. record { line = line; seen = read; reason = why }) o))
 reason_fits line read None l = tt
 reason_fits line read (Some why) l = ((l, omega arith), tt)
 
-refusals_fit : (line read : ℕ) (d : Act) → line ≤ 100000 → AllByRecursion (IsLine read) (refusals line read d)
+refusals_fit : (line read : ℕ) (d : Act) → IsShort line → AllByRecursion (IsLine read) (refusals line read d)
 refusals_fit line read (act.Edit e None) l = tt
 refusals_fit line read (act.Edit e (Some error)) l = reason_fits line read (edit_reason error) l
 refusals_fit line read (act.View c view) l = tt
@@ -437,10 +433,6 @@ callers_played (other a c e es low high is r) = (high, callers_played r)
 
 -- ---- the text
 
-in_script : (n : ℕ) (cs : List Numbered) → AscendFrom n cs → AllByRecursion IsInScript cs
-in_script n [] f = tt
-in_script n (c ∷ cs) f = (f.1, in_script (c.line + 1) cs f.2)
-
 entries_fit : (n : ℕ) (es : List Entry) → IsShort n → AllByRecursion (IsCaller n) es → AllByRecursion (λ (e : Entry). FitsAct e.act) es
     → AllByRecursion FitsEntry es
 entries_fit n [] s f g = tt
@@ -448,14 +440,14 @@ entries_fit n (e ∷ es) s f g = ((omega (arith, s, f.0), g.0), entries_fit n es
 
 lines_fit : (read : ℕ) (rs : List Refused) → IsLong read → AllByRecursion (IsLine read) rs → AllByRecursion FitsRefused rs
 lines_fit read [] l f = tt
-lines_fit read (r ∷ rs) l f = ((omega (arith, f.0.0), omega (arith, f.0.1, l)), lines_fit read rs l f.1)
+lines_fit read (r ∷ rs) l f = ((f.0.0, omega (arith, f.0.1, l)), lines_fit read rs l f.1)
 
 text_fits : (o : Opening) (views : List (Option PixelGrid)) (script : List Numbered) (n : ℕ) (xs : List Entry) (p : List Refused) (k : ℕ)
-    → FitsOpening o → IsScript script → IsShort n → IsLong (length xs) → IsLong k → IsLegal o xs
+    → FitsOpening o → AllByRecursion IsInScript script → IsShort n → IsLong (length xs) → IsLong k → IsLegal o xs
     → Follows o views script n xs p → FitsText xs p k
 text_fits o views script n xs p k small is short long files legal f =
     let read : f.last.read ≡ length xs = read_played f.plays ∙ omega arith in
-    let fits = fits_played f.plays (record { refused = tt; commands = in_script 1 script is.ascend; line = omega arith }) in
+    let fits = fits_played f.plays (record { refused = tt; commands = is; line = omega arith }) in
     record {
       entries = entries_fit n xs short (callers_played f.plays) (legal_acts_fit o xs small legal);
       count = long;

@@ -19,6 +19,7 @@ use Rattle.cv_script.specs.declared.script.Command.TheVariants as command
 use Rattle.cv_script.specs.declared.script.Numbered.{Numbered}
 use Rattle.cv_session.specs.Plays.{Play, Written, stops, quiet, own as enters, other as passes, entry_by}
 use Rattle.cv_session.specs.Follows.{at_first, IsThrough, Follows}
+use Rattle.cv_session.specs.Writes.{writes}
 use Rattle.cv_session.specs.Laws.{HasMemory}
 use Rattle.cv_session.proofs.OneLemmas.{alone, behind, follows_alone, one_journal_follows}
 
@@ -66,7 +67,7 @@ refused_at line seen why = record { line = line; seen = seen; reason = why }
 
 -- ---- two jobs of one view
 
-abbrev once : List Command
+abbrev pub once : List Command
 once = command.Start 0 ∷ command.Wait 0 ∷ command.Save 0 (codes "a.ppm") ∷ []
 
 abbrev twice : List Command
@@ -80,6 +81,9 @@ twice_ends = record { journal = refl; refused_are = refl; is_through = record { 
 
 twice_files : map name_of (behind 40 (played twice)).written ≡ codes "a.ppm" ∷ codes "b.ppm" ∷ []
 twice_files = refl
+
+twice_writes : map name_of (writes two_layers (lines_from 1 twice) (own (finished ++ Save 0 1 ∷ again)) []) ≡ codes "a.ppm" ∷ codes "b.ppm" ∷ []
+twice_writes = refl
 
 -- a `wait` isn't passed before the job's end
 past_wait : (p : List Refused) → Follow once viewed p → ⊥

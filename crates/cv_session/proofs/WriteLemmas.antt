@@ -39,7 +39,7 @@ use Rattle.cv_session.specs.Entered.{IsClaim, IsViewed, MayAct}
 use Rattle.cv_session.specs.Writes.{is_refused, name_written, names_written, picture_written, pictures_written}
 use Rattle.cv_session.specs.Laws.{FilesAreWrites}
 use Rattle.cv_session.proofs.EnteredLemmas.{act_may}
-use Rattle.cv_session.proofs.PlayLemmas.{line_of, IsLineOf, Silently, turns, refuses, begins, lets, overtakes, ends, ends_badly, silently, same_some}
+use Rattle.cv_session.proofs.PlayLemmas.{line_of, IsLineOf, Silently, turns, refuses, begins, lets, ends, ends_badly, silently, same_some}
 use Rattle.cv_session.proofs.ScriptLemmas.{IsSame, Entering, by_command, by_task, entering, Failing, of_claim, of_task, failing, from_some}
 
 -- ---- states of legal journals
@@ -232,7 +232,6 @@ kept_silent (turns m x) l h = h
 kept_silent {a} (refuses n rest why c e) l h = more_refused a.refused _ l h
 kept_silent (begins n rest m c e g x) l h = h
 kept_silent (lets m t ts e x g) l h = h
-kept_silent (overtakes t ts e o) l h = h
 kept_silent (ends w m e g) l h = h
 kept_silent {a} (ends_badly w m e g) l h = more_refused a.refused _ l h
 
@@ -307,7 +306,6 @@ avoids_silent {a} (begins n rest m c e g x) l low f =
     let cs = others_left l n a.commands rest c f.commands in
     record { refused = f.refused; mode = avoids_line _ _ l x low cs.0; commands = cs.1 }
 avoids_silent (lets m t ts e x g) l low f = record { refused = f.refused; mode = avoids_line _ _ l x low f.mode; commands = f.commands }
-avoids_silent (overtakes t ts e o) l low f = record { refused = f.refused; mode = f.mode; commands = f.commands }
 avoids_silent (ends w m e g) l low f = record { refused = f.refused; mode = avoids_line 0 0 l (inl refl) low (avoids_line 0 _ l (inl refl) low f.mode); commands = f.commands }
 avoids_silent {a} (ends_badly w m e g) l low f = record {
   refused = neither a.refused _ l f.refused (one_other w.line a.read l reason.EndedNoMemory (ap (λ (x : Mode). line_of x == l) (sym m) ∙ f.mode));
@@ -410,7 +408,6 @@ lines_silent {a} (begins n rest m c e g x) k f =
       },
     )
 lines_silent (lets m t ts e x g) k f = (k, record { positive = f.positive; commands = f.commands; refused = f.refused; mode = low_line _ _ k x f.positive f.mode })
-lines_silent (overtakes t ts e o) k f = (k, record { positive = f.positive; commands = f.commands; refused = f.refused; mode = f.mode })
 lines_silent (ends w m e g) k f = (k, record { positive = f.positive; commands = f.commands; refused = f.refused; mode = omega (arith, f.positive) })
 lines_silent {a} (ends_badly w m e g) k f = (
   k,
@@ -523,7 +520,6 @@ names_silent {a} (refuses n rest why c e) rs g =
     or_true false = refl
 names_silent {a} (begins n rest m c e f x) rs g = sym (names_more rs n a.commands rest None c (no_name rs n f))
 names_silent (lets m t ts e x h) rs g = refl
-names_silent (overtakes t ts e o) rs g = refl
 names_silent (ends w m e h) rs g = refl
 names_silent (ends_badly w m e h) rs g = refl
 
@@ -532,7 +528,6 @@ written_silent (turns m x) = refl
 written_silent (refuses n rest why c e) = refl
 written_silent (begins n rest m c e f x) = refl
 written_silent (lets m t ts e x h) = refl
-written_silent (overtakes t ts e o) = refl
 written_silent (ends w m e h) = refl
 written_silent (ends_badly w m e h) = refl
 
@@ -541,7 +536,6 @@ state_silent (turns m x) = refl
 state_silent (refuses n rest why c e) = refl
 state_silent (begins n rest m c e f x) = refl
 state_silent (lets m t ts e x h) = refl
-state_silent (overtakes t ts e o) = refl
 state_silent (ends w m e h) = refl
 state_silent (ends_badly w m e h) = refl
 

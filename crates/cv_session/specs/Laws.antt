@@ -67,12 +67,13 @@ EditsAreOfScript =
     (journal : List Entry) (refused : List Refused) → Follows o views script workers journal refused
     → all_edits journal ≡ edits_in script
 
--- so a script and a journal's text name one journal, whatever the numbers of callers; of the lengths it takes
--- what a journal can hold
+-- so a script, whose lines have numbers of 32 bits, and a legal journal's text name one journal, whatever the
+-- numbers of callers; of the lengths it takes what a journal can hold
 abbrev pub ScriptAndTextTellJournal : Type 0
 ScriptAndTextTellJournal =
     (o : Opening) (views : List (Option PixelGrid)) (script : List Numbered) (m n : ℕ) (xs ys : List Entry)
-    (p q : List Refused) (k l : ℕ) → FitsOpening o → IsScript script → IsShort m → IsShort n
+    (p q : List Refused) (k l : ℕ) → FitsOpening o
+    → AllByRecursion (λ (c : Numbered). IsShort c.line) script → IsShort m → IsShort n
     → IsLong (length xs) → IsLong (length ys) → IsLong k → IsLong l → IsLegal o xs → IsLegal o ys
     → Follows o views script m xs p → Follows o views script n ys q
     → journal_text xs p k ≡ journal_text ys q l → (xs ≡ ys) × (p ≡ q) × (k ≡ l)
@@ -104,8 +105,8 @@ OthersDoTasks =
     (journal : List Entry) (refused : List Refused) → Follows o views script workers journal refused
     → AllByRecursion (λ (entry : Entry). (entry.caller ≡ 0) ⊎ IsOfWorker workers entry) journal
 
--- a journal that follows a script cut before some commands follows it so with the entries of other callers
--- behind it
+-- a journal that follows a script cut behind a command that writes follows it so with the entries of other
+-- callers behind it
 abbrev pub OthersMayGoOn : Type 0
 OthersMayGoOn =
     (left : List Numbered) (o : Opening) (views : List (Option PixelGrid)) (script : List Numbered)

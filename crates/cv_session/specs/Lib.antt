@@ -1,8 +1,8 @@
 -- Sessions, in reading order.
 pub mod Responses
 pub mod Plays
-pub mod Follows
 pub mod Writes
+pub mod Follows
 pub mod Entered
 pub mod Laws
 pub mod HeldLaws

@@ -106,12 +106,15 @@ abbrev pub begun_next : List Numbered → Play → Option Play
 begun_next [] a = Some (turned Closes a)
 begun_next (n ∷ rest) a = begun n.line rest (response a.state (length a.held) n.command) a
 
+-- the oldest held task is let go by now, and a later claim is of what is due from now on
+abbrev pub letting : Mode → List Task → Play → Play
+letting m ts a = record a { held = ts; mode = m; due = due_in a.state }
+
 -- the oldest held task is let go where it is a compose of a job that has an end
 abbrev pub let_go : Mode → List Task → Play → Option Play
 let_go m [] a = None
 let_go m (Look j at ∷ ts) a = None
-let_go m (Compose j ∷ ts) a =
-    if is_some (how a.state j) then Some (record a { held = ts; mode = m }) else None
+let_go m (Compose j ∷ ts) a = if is_some (how a.state j) then Some (letting m ts a) else None
 
 -- under `wait` no task is held any more
 abbrev pub given_all : Awaited → List Task → Play → Option Play
@@ -132,7 +135,7 @@ is_overtaken t a = is_some (how a.state (job_of_task t)) && not (is_some (how a.
 -- a task that is claimed under `wait` is let go where its job got an end meanwhile
 abbrev pub worked : Awaited → List Task → Play → Option Play
 worked w [] a = waited w (how a.state w.job) a
-worked w (t ∷ ts) a = if is_overtaken t a then Some (record a { held = ts }) else None
+worked w (t ∷ ts) a = if is_overtaken t a then Some (letting (Works w) ts a) else None
 
 -- the play behind a silent step by what the session is about to do
 abbrev pub silent_in : Mode → Play → Option Play

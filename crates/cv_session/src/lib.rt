@@ -1,7 +1,7 @@
 //! Sessions: what it means that a journal follows a script.
 //!
 //! Contract: laws alone; the calls that play a script are to come. Definitions: `Responses`, `Plays`,
-//! `Follows`, `Writes`, `Entered`; laws: `Laws`, `HeldLaws`, in this order. Nothing takes memory; no handle
+//! `Writes`, `Follows`, `Entered`; laws: `Laws`, `HeldLaws`, in this order. Nothing takes memory; no handle
 //! is needed.
 #![tactic(auto)]
 
