@@ -8,9 +8,13 @@ use cv_model::{Image, NoMemory, Rgba};
 use std::alloc::Global;
 
 #[cfg(test)]
+mod graduated;
+#[cfg(test)]
 mod layers;
 #[cfg(test)]
 mod random;
+#[cfg(test)]
+mod strips;
 #[cfg(test)]
 mod tests;
 
@@ -31,8 +35,13 @@ pub fn mark(pixel: Rgba) -> char {
 
 /// The marks of an image's pixels, row by row from the top.
 pub fn marks(alloc: Global, image: &Image) -> Result<String, NoMemory> {
+    marks_of(alloc, image.pixels().as_slice())
+}
+
+/// The marks of these pixels.
+pub fn marks_of(alloc: Global, pixels: &[Rgba]) -> Result<String, NoMemory> {
     let mut marks = String::new(alloc);
-    for pixel in image.pixels().as_slice() {
+    for pixel in pixels {
         marks.push(mark(*pixel))?;
     }
     Ok(marks)
