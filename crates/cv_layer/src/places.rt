@@ -62,7 +62,11 @@ fn without_place(places: &Chunked<u64>, at: u64) -> Result<Chunked<u64>, NoMemor
 }
 
 /// The places with one among them, or without it. The others stay.
-pub(crate) fn marked(places: &Chunked<u64>, at: u64, is_there: bool) -> Result<Chunked<u64>, NoMemory>
+pub(crate) fn marked(
+    places: &Chunked<u64>,
+    at: u64,
+    is_there: bool,
+) -> Result<Chunked<u64>, NoMemory>
     ensures { IfOk result (λ made. IsMarked places.now made at is_there) }
 {
     if is_there {

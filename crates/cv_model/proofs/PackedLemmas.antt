@@ -22,7 +22,8 @@ get_of f (w ∷ ws) zero = refl
 get_of f (w ∷ ws) (suc k) = get_of (λ k. f (suc k)) ws k
 
 -- what is said of places behind the end doesn't matter
-alike_of : (f g : ℕ → Bool) (ws : List ℤ) → ((k : ℕ) → k < length ws → g k ≡ f k) → cells_of g ws ≡ cells_of f ws
+alike_of : (f g : ℕ → Bool) (ws : List ℤ) → ((k : ℕ) → k < length ws → g k ≡ f k)
+    → cells_of g ws ≡ cells_of f ws
 alike_of f g [] h = refl
 alike_of f g (w ∷ ws) h =
     let here = h 0 (omega arith) in
@@ -137,7 +138,6 @@ unpacked_set ws ps qs i c h =
     set_of (is_among ps) (is_among qs) ws i (word_of c) h.others
     ∙ ap (λ b. set (cells_of (is_among ps) ws) i (cell_of_word b (word_of c))) h.here
     ∙ ap (set (cells_of (is_among ps) ws) i) (whole c)
-
 
 -- places within a list are within a longer one
 pub within_more : (ws : List ℤ) (ps : List ℕ) (w : ℤ) → AreWithin ws ps → AreWithin (ws ++ w ∷ []) ps

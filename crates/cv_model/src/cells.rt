@@ -10,8 +10,8 @@ use std::marker::Model;
 
 /// Cells, the northernmost row first and each row from the west, seen as the list of them.
 ///
-/// A cell is held in 8 bytes: as its value, or as the least number of 64 bits where it has none. The places of
-/// cells whose value is that number itself stand in a list beside; no reader gives such a value.
+/// A cell is held in 8 bytes: as its value, or as the least number of 64 bits where it has none. The places
+/// of cells whose value is that number itself stand in a list beside; no reader gives such a value.
 #[derive(Drop)]
 pub struct CellList {
     words: Vec<i64>,
