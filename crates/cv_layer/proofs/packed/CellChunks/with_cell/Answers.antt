@@ -22,6 +22,6 @@ returns-in-Ok c =
     let words = c.in-Ok.ensures.ok ∙ ap (λ (vs : List ℤ). set vs at (to_z w64 (of_z w64 c.word_of.result)))
     c.in_ok-words.ensures ∙ ap (λ (w : ℤ). set ws at w) (same ∙ c.word_of.ensures) in
     let marked : IsMarked ps qs at (is_least c.args.cell) =
-        rw (sym c.is_least.ensures) c.in_ok-lowest.ensures in
+    rw (sym c.is_least.ensures) c.in_ok-lowest.ensures in
     ap (λ (vs : List ℤ). unpacked vs qs) words ∙ unpacked_set ws ps qs at c.args.cell marked
     ∙ ap (λ (cells : List Cell). set cells at c.args.cell) c.self.view_is
