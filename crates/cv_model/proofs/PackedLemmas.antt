@@ -138,7 +138,6 @@ unpacked_set ws ps qs i c h =
     ∙ ap (λ b. set (cells_of (is_among ps) ws) i (cell_of_word b (word_of c))) h.here
     ∙ ap (set (cells_of (is_among ps) ws) i) (whole c)
 
-
 -- places within a list are within a longer one
 pub within_more : (ws : List ℤ) (ps : List ℕ) (w : ℤ) → AreWithin ws ps → AreWithin (ws ++ w ∷ []) ps
 within_more ws ps w h =

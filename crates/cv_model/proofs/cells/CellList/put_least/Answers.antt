@@ -12,6 +12,6 @@ returns-in-Ok-clause-ok c =
     let ps = c.self.inside.lowest.items in
     let at = c.len.ensures ∙ c.self.inside.words.ok.0 in
     rw (c.in-Ok.ensures.items, c.in_ok-push.ensures.items) (
-      ap (λ (k : ℕ). unpacked (ws ++ least ∷ []) (ps ++ k ∷ [])) at
-      ∙ unpacked_least ws ps
-      ∙ ap (λ (cs : List Cell). cs ++ Value least ∷ []) c.self.view_is)
+    ap (λ (k : ℕ). unpacked (ws ++ least ∷ []) (ps ++ k ∷ [])) at
+    ∙ unpacked_least ws ps
+    ∙ ap (λ (cs : List Cell). cs ++ Value least ∷ []) c.self.view_is)
