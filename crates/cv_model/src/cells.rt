@@ -1,6 +1,6 @@
 //! The cells of a grid, packed.
 
-ghost use Rattle.std.specs.Prelude.{◌≡◌, ◌++◌, ◌∷◌, [], length, OnOk, OnErr, IfOk, slice_get};
+ghost use Rattle.std.specs.Prelude.{◌≡◌, ◌++◌, ◌∷◌, [], length, OnOk, OnErr, IfOk, IfErr, slice_get};
 ghost use Rattle.cv_model.specs.Packed.{cell_of_word, is_among, unpacked, least};
 
 use crate::NoMemory;
@@ -45,6 +45,16 @@ fn cell_at(word: &i64, lowest: &[u64], at: u64) -> Cell
 }
 
 impl CellList {
+    /// The empty list.
+    pub fn new(alloc: Global) -> Self
+        ensures { result ≡ [] }
+    {
+        CellList {
+            words: Vec::new(alloc),
+            lowest: Vec::new(alloc),
+        }
+    }
+
     /// An empty list that asks for the memory of `room` cells at once.
     pub fn with_room(alloc: Global, room: u64) -> Result<Self, NoMemory>
         ensures { IfOk result (λ made. made ≡ []) }
@@ -54,6 +64,17 @@ impl CellList {
             words,
             lowest: Vec::new(alloc),
         })
+    }
+
+    /// Puts a cell behind the others. A refusal hands it back and changes nothing.
+    pub fn push(&mut self, cell: Cell) -> Result<(), (Cell, NoMemory)>
+        ensures ok { OnOk result (self.new ≡ self.old ++ cell ∷ []) }
+        ensures err { IfErr result (λ e. (e.0 ≡ cell) × (self.new ≡ self.old)) }
+    {
+        match self.put(cell) {
+            Ok(()) => Ok(()),
+            Err(refused) => Err((cell, refused)),
+        }
     }
 
     /// Puts a cell behind the others. A refusal changes nothing.
