@@ -18,3 +18,6 @@ pub use cover::Cover;
 pub use mixing::lay_on;
 pub use opaque::OpaqueCanvas;
 pub use pixels::PixelCanvas;
+
+#[cfg(test)]
+mod tests;
