@@ -3,6 +3,7 @@ pub mod LayLemmas
 pub mod LayingLemmas
 pub mod MaskLemmas
 pub mod CellLemmas
+pub mod SymbolLemmas
 pub mod PaintedLemmas
 pub mod TableLemmas
 pub mod FarLemmas

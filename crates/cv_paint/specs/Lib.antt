@@ -2,6 +2,7 @@
 pub mod Layings
 pub mod Finish
 pub mod Masks
+pub mod Symbols
 pub mod Cells
 pub mod Far
 pub mod Windows
