@@ -16,6 +16,7 @@ use crate::features::lay_table;
 use crate::finish::{put_cells, put_rows};
 use crate::layings::Workspace;
 use crate::masks::cover_table;
+use crate::symbols::Symbols;
 use cv_canvas::{Cover, PixelCanvas};
 use cv_geom::Steps;
 use cv_layer::{LayerContents, LayerInput, Table};
@@ -75,7 +76,7 @@ fn mask_of<S: Stop, L: Ledger>(
 fn paint_table<S: Stop, L: Ledger>(
     alloc: Global,
     table: &Table,
-    input: &LayerInput,
+    symbols: &Symbols,
     mask: &Option<Cover>,
     view: &View,
     work: &mut Workspace,
@@ -86,13 +87,13 @@ fn paint_table<S: Stop, L: Ledger>(
     requires { IsMaskOf view.now mask.now }
     ensures counts { S.yeses stop.old ≤ S.yeses stop.new }
     ensures ok { OnOk result (pixels.new ≡ pixels.old ++ pixels_of view.now.w view.now.h (masked mask.now
-        (λ i j. laid (flat_map (feature_strokes input.now.parts view.now (centre_of view.now i j))
+        (λ i j. laid (flat_map (feature_strokes symbols.now view.now (centre_of view.now i j))
         table.now.features)))) }
     ensures err { IfErr result (λ e. StopCause e (S.yeses stop.old) (S.yeses stop.new)) }
     ensures cost { steps.new ≤ steps.old + (features_cost view.now table.now.features + view_size view.now) }
 {
     let mut canvas = PixelCanvas::new(alloc, view.w, view.h)?;
-    lay_table(&mut canvas, table, input, view, work, stop, steps)?;
+    lay_table(&mut canvas, table, symbols, view, work, stop, steps)?;
     put_rows(alloc, &canvas, mask, view, stop, steps, pixels)?;
     Ok(())
 }
@@ -100,7 +101,7 @@ fn paint_table<S: Stop, L: Ledger>(
 /// Puts the pixels of a layer at a view behind others, row by row from the top.
 pub fn paint_view<S: Stop, L: Ledger>(
     alloc: Global,
-    input: &LayerInput,
+    symbols: &Symbols,
     view: &View,
     stop: &mut S,
     steps: &mut Steps<L>,
@@ -108,17 +109,18 @@ pub fn paint_view<S: Stop, L: Ledger>(
 ) -> Result<(), PaintError>
     ensures counts { S.yeses stop.old ≤ S.yeses stop.new }
     ensures ok { OnOk result
-        (pixels.new ≡ pixels.old ++ pixels_of view.now.w view.now.h (pixel input.now.parts view.now)) }
+        (pixels.new ≡ pixels.old ++ pixels_of view.now.w view.now.h (pixel symbols.now view.now)) }
     ensures err { IfErr result (λ e. StopCause e (S.yeses stop.old) (S.yeses stop.new)) }
-    ensures cost { steps.new ≤ steps.old + view_cost view.now input.now.parts }
+    ensures cost { steps.new ≤ steps.old + view_cost view.now symbols.now }
 {
+    let input = symbols.input();
     let mut work = Workspace::new(alloc);
     let mask = mask_of(alloc, input, view, &mut work, stop, steps)?;
     let layer = input.layer();
     match layer.contents() {
         LayerContents::Text(table) => {
             paint_table(
-                alloc, table, input, &mask, view, &mut work, stop, steps, pixels,
+                alloc, table, symbols, &mask, view, &mut work, stop, steps, pixels,
             )?;
             Ok(())
         }

@@ -13,7 +13,7 @@ use Rattle.cv_paint.proofs.painted.paint_view.Goals as goal
 
 pub returns-in-Text-clause-ok : goal.returns-in-Text-clause-ok
 returns-in-Text-clause-ok g c =
-    let parts = c.args.input.now.parts in
+    let parts = c.args.symbols.now in
     let view = c.args.view.now in
     c.in_ok-paint_table-in-Text.ensures.ok
     ∙ ap (λ (ps : List Rgba). c.args.pixels.now ++ ps)
@@ -24,7 +24,7 @@ returns-in-Text-clause-ok g c =
 
 pub returns-clause-ok : goal.returns-clause-ok
 returns-clause-ok g c =
-    let parts = c.args.input.now.parts in
+    let parts = c.args.symbols.now in
     let view = c.args.view.now in
     c.in_ok-put_cells-in-Grid.ensures.ok
     ∙ ap (λ (ps : List Rgba). c.args.pixels.now ++ ps)
