@@ -233,7 +233,7 @@ edit_noted h who left e u journal kept edited in_order tabs rows longer room owe
     noted h (act.Edit e None) who left u journal kept longer (sym in_order)
     (edit_seen h who e u.store edited kept.holds ∙ ap state_of same)
     (subst (λ t. Holds t left) same (edit_holds h.tables u.store e h.spare left edited room owes kept.holds))
-    (subst (KeepJobs h.tables.rows) (sym rows) (jobs_edited_kept e h.tables.rows))
+    (subst (KeepJobs h.tables.rows) (sym rows) (jobs_edited_kept e h.tables.rows)) edited refl
 
 -- ---- a refused edit
 

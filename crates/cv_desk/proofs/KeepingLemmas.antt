@@ -18,6 +18,7 @@ use Rattle.cv_event.specs.declared.slot.Slot.{Slot}
 use Rattle.cv_event.specs.declared.slot.Standing.{Standing}
 use Rattle.cv_event.specs.declared.slot.Standing.TheVariants.{Missed, Lost}
 use Rattle.cv_event.specs.States.{keeps_cache, new_slot, started, view_on, slot_stands, stands_at, publishes, canvases_finished}
+use Rattle.cv_event.specs.Histories.{accepted_edit, start_of}
 use Rattle.cv_event.specs.Legality.{OfJob, Allows, LegalFrom, IsLegal, fate_of}
 use Rattle.cv_event.proofs.PresentLemmas.{all_change, all_map, all_more, all_at}
 use Rattle.cv_store.specs.Stores.{StoreParts, project_of, id_of}
@@ -26,8 +27,9 @@ use Rattle.cv_tables.specs.Rows.{row_cancelled, new_row, missed_in, missed_weigh
 use Rattle.cv_tables.specs.Tabs.{Tab, Tables, canvas_of, tab_viewed, tab_publishes, state_of}
 use Rattle.cv_tables.proofs.TableLemmas.{owed_change, owed_more, lighter, weight_within}
 use Rattle.cv_tables.proofs.RowLemmas.{ended_live}
-use Rattle.cv_desk.specs.Desks.{History, state, IsFresh, AreFresh, IsWhole, IsCurrent, Holds, IsDesk, Notes, KeepJobs}
-use Rattle.cv_desk.proofs.BasisLemmas.{jobs_ended_kept, jobs_stand_kept, standing_layers}
+use Rattle.cv_desk.specs.Desks.{History, state, IsFresh, AreFresh, IsWhole, IsCurrent, Holds, IsRevised, IsDesk, Notes, KeepJobs}
+use Rattle.cv_desk.proofs.BasisLemmas.{jobs_ended_kept, jobs_stand_kept, jobs_started_kept, standing_layers}
+use Rattle.cv_desk.proofs.RevisedLemmas.{StoreGoes, revised_on, revised_started}
 use Rattle.cv_desk.proofs.SeenLemmas.{jobs_ended, jobs_started, jobs_stand, job_seen, canvases_viewed, canvases_published}
 
 pub legal_more : (s : State) (journal : List Entry) (e : Entry) → LegalFrom s journal → Allows (fold after s journal) e.caller e.act
@@ -36,17 +38,40 @@ legal_more s [] e legal allowed = (allowed, tt)
 legal_more s (x ∷ journal) e legal allowed = (legal.0, legal_more (after s x) journal e legal.1 allowed)
 
 -- one entry more, which is allowed, with tables of the state behind it
+legal_on : (h : History) (journal : List Entry) (who : ℕ) (a : Act) → IsDesk h
+    → journal ≡ h.journal ++ record { caller = who; act = a } ∷ [] → Allows (state h) who a → IsLegal h.opening journal
+legal_on h journal who a kept longer allowed =
+    subst (IsLegal h.opening) (sym longer)
+    (legal_more (begin h.opening) h.journal (record { caller = who; act = a }) kept.legal
+    (subst (λ s. Allows s who a) (sym kept.shows) allowed))
+
+shows_on : (h : History) (journal : List Entry) (who : ℕ) (a : Act) (u : Tables) → IsDesk h
+    → journal ≡ h.journal ++ record { caller = who; act = a } ∷ [] → did (state h) who a ≡ state_of u
+    → replay h.opening journal ≡ state_of u
+shows_on h journal who a u kept longer made =
+    ap (replay h.opening) longer
+    ∙ fold-append after (begin h.opening) h.journal (record { caller = who; act = a } ∷ [])
+    ∙ ap (λ s. did s who a) kept.shows ∙ made
+
 pub kept_more : (h : History) (journal : List Entry) (who : ℕ) (a : Act) (u : Tables) (left : ℕ) → IsDesk h
     → journal ≡ h.journal ++ record { caller = who; act = a } ∷ [] → Allows (state h) who a → did (state h) who a ≡ state_of u
-    → Holds u left → IsDesk (record { opening = h.opening; journal = journal; spare = left; tables = u })
-kept_more h journal who a u left kept longer allowed made holds =
-    let e : Entry = record { caller = who; act = a } in record {
-      legal = subst (IsLegal h.opening) (sym longer)
-          (legal_more (begin h.opening) h.journal e kept.legal (subst (λ s. Allows s who a) (sym kept.shows) allowed));
-      shows = ap (replay h.opening) longer ∙ fold-append after (begin h.opening) h.journal (e ∷ [])
-          ∙ ap (λ s. did s who a) kept.shows ∙ made;
-      holds = holds;
-    }
+    → Holds u left → IsRevised h.opening.project journal u
+    → IsDesk (record { opening = h.opening; journal = journal; spare = left; tables = u })
+kept_more h journal who a u left kept longer allowed made holds revised = record {
+  legal = legal_on h journal who a kept longer allowed;
+  shows = shows_on h journal who a u kept longer made;
+  holds = holds;
+  revised = revised;
+}
+
+-- what an act that is no start leaves behind the journal
+act_revised : (h : History) (journal : List Entry) (who : ℕ) (a : Act) (u : Tables) → IsDesk h
+    → journal ≡ h.journal ++ record { caller = who; act = a } ∷ [] → Allows (state h) who a → did (state h) who a ≡ state_of u
+    → KeepJobs h.tables.rows u.rows → StoreGoes h.tables.store (accepted_edit a) u.store → start_of a ≡ None
+    → IsRevised h.opening.project journal u
+act_revised h journal who a u kept longer allowed made jobs goes none =
+    revised_on h journal (record { caller = who; act = a }) u kept longer (legal_on h journal who a kept longer allowed)
+    (shows_on h journal who a u kept longer made) jobs goes none
 
 -- ---- an end
 
@@ -112,6 +137,7 @@ pub ended_noted : (h : History) (how : How) (a : Act) (who j left : ℕ) (rows :
     → OfJob (state h) j (λ job. job.ended ≡ None) → rows ≡ change_row j (row_ended how) h.tables.rows
     → journal ≡ h.journal ++ record { caller = who; act = a } ∷ [] → h.spare ≤ left + 1 → Allows (state h) who a
     → did (state h) who a ≡ record (state h) { jobs = (change_job j (with_end how) (state h).jobs) }
+    → accepted_edit a ≡ None → start_of a ≡ None
     → let new : History = record {
       opening = h.opening;
       journal = journal;
@@ -119,34 +145,41 @@ pub ended_noted : (h : History) (how : How) (a : Act) (who j left : ℕ) (rows :
       tables = record h.tables { rows = rows };
     } in
     IsDesk new × Notes h new who a
-ended_noted h how a who j left rows journal kept live made longer room allowed does =
+ended_noted h how a who j left rows journal kept live made longer room allowed does edits starts =
     let q = row_of h.tables.rows j (λ job. job.ended ≡ None) live in
     let seen : did (state h) who a ≡ state_of (record h.tables { rows = rows }) =
     does ∙ ap (λ jobs. record (state h) { jobs = jobs }) (sym (jobs_ended how h.tables.rows j) ∙ ap (map job_of) (sym made)) in
     let holds = subst (λ l. Holds (record h.tables { rows = l }) left) (sym made)
-    (end_holds h.tables h.spare left how j q.0 q.1 q.2 room kept.holds) in (
-      kept_more h journal who a (record h.tables { rows = rows }) left kept longer allowed seen holds,
-      record {
-        opening = refl;
-        journal = longer;
-        becomes = sym seen;
-        allowed = allowed;
-        jobs = subst (KeepJobs h.tables.rows) (sym made) (jobs_ended_kept how j h.tables.rows);
-      },
+    (end_holds h.tables h.spare left how j q.0 q.1 q.2 room kept.holds) in
+    let jobs = subst (KeepJobs h.tables.rows) (sym made) (jobs_ended_kept how j h.tables.rows) in
+    let goes = subst (λ o. StoreGoes h.tables.store o h.tables.store) (sym edits) refl in (
+      kept_more h journal who a (record h.tables { rows = rows }) left kept longer allowed seen holds
+          (act_revised h journal who a (record h.tables { rows = rows }) kept longer allowed seen jobs goes starts),
+      record { opening = refl; journal = longer; becomes = sym seen; allowed = allowed; jobs = jobs },
     )
 
 -- ---- any entry
 
 -- what comes of an entry with tables of the state behind it
-pub noted : (h : History) (a : Act) (who left : ℕ) (u : Tables) (journal : List Entry) → IsDesk h
+noted_with : (h : History) (a : Act) (who left : ℕ) (u : Tables) (journal : List Entry) → IsDesk h
     → journal ≡ h.journal ++ record { caller = who; act = a } ∷ [] → Allows (state h) who a → did (state h) who a ≡ state_of u
-    → Holds u left → KeepJobs h.tables.rows u.rows
+    → Holds u left → KeepJobs h.tables.rows u.rows → IsRevised h.opening.project journal u
     → let new : History = record { opening = h.opening; journal = journal; spare = left; tables = u } in
     IsDesk new × Notes h new who a
-noted h a who left u journal kept longer allowed seen holds jobs = (
-  kept_more h journal who a u left kept longer allowed seen holds,
+noted_with h a who left u journal kept longer allowed seen holds jobs revised = (
+  kept_more h journal who a u left kept longer allowed seen holds revised,
   record { opening = refl; journal = longer; becomes = sym seen; allowed = allowed; jobs = jobs },
 )
+
+-- of one that is no start
+pub noted : (h : History) (a : Act) (who left : ℕ) (u : Tables) (journal : List Entry) → IsDesk h
+    → journal ≡ h.journal ++ record { caller = who; act = a } ∷ [] → Allows (state h) who a → did (state h) who a ≡ state_of u
+    → Holds u left → KeepJobs h.tables.rows u.rows → StoreGoes h.tables.store (accepted_edit a) u.store → start_of a ≡ None
+    → let new : History = record { opening = h.opening; journal = journal; spare = left; tables = u } in
+    IsDesk new × Notes h new who a
+noted h a who left u journal kept longer allowed seen holds jobs goes starts =
+    noted_with h a who left u journal kept longer allowed seen holds jobs
+    (act_revised h journal who a u kept longer allowed seen jobs goes starts)
 
 -- an entry that changes nothing
 pub same_holds : (t : Tables) (spare left : ℕ) → spare ≤ left + 1 → owed t.rows + 1 ≤ spare → Holds t spare → Holds t left
@@ -265,6 +298,29 @@ started_rows h who c j view there is few =
     let size = length-map h.tables.rows job_of in
     started_allowed (state h) who c j view there (is ∙ ap suc (sym size)) (subst (λ n. n < 4294967295) (sym size) few)
 
+-- what comes of a start
+pub start_noted : (h : History) (who c j left : ℕ) (view : PixelGrid) (rows : List Row) (journal : List Entry) → IsDesk h
+    → IsDistinct nat_eq (map id_of h.tables.store.layers) → view_on (state h) c ≡ Some view → j ≡ suc (length h.tables.rows)
+    → length h.tables.rows < 4294967295 → rows ≡ map (row_cancelled c) h.tables.rows ++ new_row c h.tables.store view ∷ []
+    → journal ≡ h.journal ++ record { caller = who; act = act.Start c j } ∷ [] → h.spare ≤ left + 1
+    → owed h.tables.rows + 2 ≤ h.spare
+    → let new : History = record {
+      opening = h.opening;
+      journal = journal;
+      spare = left;
+      tables = record h.tables { rows = rows };
+    } in
+    IsDesk new × Notes h new who (act.Start c j)
+start_noted h who c j left view rows journal kept apart there is few made longer room owes =
+    let fresh = new_row c h.tables.store view in
+    let u = record h.tables { rows = rows } in
+    let holds = subst (λ l. Holds (record h.tables { rows = l }) left) (sym made)
+    (start_holds h.tables h.spare left c view apart room owes kept.holds) in
+    let jobs = subst (KeepJobs h.tables.rows) (sym made) (jobs_started_kept c fresh h.tables.rows) in
+    noted_with h (act.Start c j) who left u journal kept longer (started_rows h who c j view there is few)
+    (start_seen h who c j view rows there made) holds jobs
+    (revised_started h journal (record { caller = who; act = act.Start c j }) u c fresh kept longer jobs refl refl made refl)
+
 -- ---- a delivery
 
 pub missed_change : (f : Slot → Slot) (list : List Slot) (at : ℕ) (x : Slot) → slice_get list at ≡ Some x
@@ -360,7 +416,7 @@ delivered_noted h fate who j at left standing rows journal r x kept there is was
     let seen = does
     ∙ ap (λ l. record (state h) { jobs = l }) (sym (jobs_stand at standing h.tables.rows j) ∙ ap (map job_of) (sym made)) in
     noted h (act.Deliver j at fate) who left (record h.tables { rows = rows }) journal kept longer allowed seen holds
-    (subst (KeepJobs h.tables.rows) (sym made) (jobs_stand_kept at standing j h.tables.rows))
+    (subst (KeepJobs h.tables.rows) (sym made) (jobs_stand_kept at standing j h.tables.rows)) refl refl
 
 -- ---- a finish
 
@@ -407,7 +463,7 @@ finish_noted h who j left tabs rows journal r kept there composer none published
     (sym (job_seen h.tables.rows j ∙ ap (option_map job_of) there)) (composer, none) in
     noted h (act.Finish j) who left (record h.tables { tabs = tabs; rows = rows }) journal kept longer allowed
     (finish_seen h who j r tabs rows there published made) holds
-    (subst (KeepJobs h.tables.rows) (sym made) (jobs_ended_kept Finished j h.tables.rows))
+    (subst (KeepJobs h.tables.rows) (sym made) (jobs_ended_kept Finished j h.tables.rows)) refl refl
 
 pub room_for_row : (h : History) (j : ℕ) (r : Row) → IsDesk h → row_in h.tables.rows j ≡ Some r → r.ended ≡ None → 1 ≤ h.spare
 room_for_row h j r kept there none =

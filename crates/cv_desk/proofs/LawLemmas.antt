@@ -22,8 +22,10 @@ use Rattle.cv_tables.specs.Tabs.{Tab, PublishedJob, taken_in, canvas_of}
 use Rattle.cv_desk.specs.Desks.{History, state, IsPresent, IsWhole, IsCurrent, IsDesk}
 use Rattle.cv_desk.specs.Laws.{Call, IsCall, AreCalls, left_by, entries_of, CallsMakeHistory}
 use Rattle.cv_desk.specs.Laws.{present, IsOf, ShowsLast, ShowsCanvas, ShowsJob, DesksAreKnown}
+use Rattle.cv_desk.specs.Laws.{StampsTellInputs, StampsTellPresentInputs}
 use Rattle.cv_desk.proofs.SeenLemmas.{job_seen}
 use Rattle.cv_desk.proofs.KeepingLemmas.{legal_more, row_kept}
+use Rattle.cv_desk.proofs.RevisedLemmas.{alike_stamps, present_stamps}
 use Rattle.cv_desk.proofs.PictureLemmas.{ready_picture, whole_picture, listed_picture, slots_are}
 
 -- ---- a list of calls
@@ -103,6 +105,7 @@ shows_canvas h kept c tab there =
           (all_same (IsPresent h.tables.store) (IsOf (project_of h.tables.store)) (parts_seen h.tables.store) tab.paintings current.present);
       last = by tab.published (ap (λ s. published_on s c) kept.shows ∙ ap (λ o. option_and_then (λ (k : Canvas). k.published) o) canvas)
           current.published;
+      inputs = current.present;
     }
   where
     by : (o : Option PublishedJob) → published_on (present h) c ≡ option_map taken_in o → IfSome o (λ last. IsWhole last.row)
@@ -117,6 +120,7 @@ shows_job h kept j row there =
       slots = slots_are row whole;
       ready = ready_picture row whole;
       whole = whole_picture row whole;
+      behind = kept.revised.jobs j row there;
     }
 
 pub desks_are_known : DesksAreKnown
@@ -126,4 +130,15 @@ desks_are_known h kept = record {
   project = sym (ap (λ (s : State). s.project) kept.shows) ∙ project_is_of_edits h.opening h.journal;
   canvases = shows_canvas h kept;
   jobs = shows_job h kept;
+  behind = kept.revised.store;
 }
+
+-- ---- stamps
+
+pub stamps_tell_inputs : StampsTellInputs
+stamps_tell_inputs h j k id a b known first second same =
+    alike_stamps h.opening.project h.journal j k id a.store b.store (known.jobs j a first).behind (known.jobs k b second).behind same
+
+pub stamps_tell_present_inputs : StampsTellPresentInputs
+stamps_tell_present_inputs h j id row known there same =
+    present_stamps h.opening.project h.journal j id row.store h.tables.store (known.jobs j row there).behind known.behind same

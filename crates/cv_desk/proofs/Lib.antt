@@ -1,6 +1,7 @@
 -- Lemmas on the desk.
 pub mod BasisLemmas
 pub mod SeenLemmas
+pub mod RevisedLemmas
 pub mod KeepingLemmas
 pub mod EditedLemmas
 pub mod PaintedLemmas

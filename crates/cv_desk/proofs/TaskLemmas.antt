@@ -234,7 +234,7 @@ stored_noted h who j at left p tabs rows journal r x kept there is was paints fa
     there is (was, sym fated) in
     noted h (act.Deliver j at Stored) who left (record t { tabs = tabs; rows = rows }) journal kept longer allowed
     (stored_seen h who j at p tabs rows r x there is own taken made) holds
-    (subst (KeepJobs t.rows) (sym made) (jobs_stand_kept at Ready j t.rows))
+    (subst (KeepJobs t.rows) (sym made) (jobs_stand_kept at Ready j t.rows)) refl refl
 
 -- ---- a look
 
@@ -313,7 +313,7 @@ hit_noted h who j at left tabs rows journal r x kept due there is yet hit taken 
     } in
     noted h (act.Look j at true) who left (record t { tabs = tabs; rows = rows }) journal kept longer (due, sym hit)
     (served_seen h who j at tabs rows r x there is taken made) holds
-    (subst (KeepJobs t.rows) (sym made) (jobs_stand_kept at Ready j t.rows))
+    (subst (KeepJobs t.rows) (sym made) (jobs_stand_kept at Ready j t.rows)) refl refl
 
 pub miss_noted : (h : History) (who j at left : ℕ) (rows : List Row) (journal : List Entry) (r : Row) (x : Slot) → IsDesk h
     → task (state h) ≡ Some (Look j at) → row_in h.tables.rows j ≡ Some r → slice_get r.slots at ≡ Some x
@@ -334,7 +334,7 @@ miss_noted h who j at left rows journal r x kept due there is yet missed made lo
     let seen : did (state h) who (act.Look j at false) ≡ state_of (record t { rows = rows }) =
     ap (λ l. record (state h) { jobs = l }) (sym (jobs_stand at (Missed who) t.rows j) ∙ ap (map job_of) (sym made)) in
     noted h (act.Look j at false) who left (record t { rows = rows }) journal kept longer (due, sym missed) seen holds
-    (subst (KeepJobs t.rows) (sym made) (jobs_stand_kept at (Missed who) j t.rows))
+    (subst (KeepJobs t.rows) (sym made) (jobs_stand_kept at (Missed who) j t.rows)) refl refl
 
 -- ---- what a look hits
 
@@ -510,7 +510,7 @@ compose_noted h who j left rows journal r kept due there made longer less room =
     let seen : did (state h) who (act.Compose j) ≡ state_of (record t { rows = rows }) =
     ap (λ l. record (state h) { jobs = l }) (sym (jobs_composed who t.rows j) ∙ ap (map job_of) (sym made)) in
     noted h (act.Compose j) who left (record t { rows = rows }) journal kept longer due seen holds
-    (subst (KeepJobs t.rows) (sym made) (jobs_composed_kept who j t.rows))
+    (subst (KeepJobs t.rows) (sym made) (jobs_composed_kept who j t.rows)) refl refl
 
 -- ---- a delivery
 

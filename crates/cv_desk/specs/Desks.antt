@@ -2,19 +2,22 @@
 --
 -- Source: in outline the developer documentation of QGIS (`QgsMapRendererParallelJob`, `QgsMapRendererCache`). All
 -- rules are this project's own.
-use Rattle.std.specs.Prelude.{◌≡◌, ◌≤◌, ◌++◌, ◌∷◌, [], ℕ, false, nat_eq, List, map, take, length, Some, IfSome}
-use Rattle.std.specs.List.{AllByRecursion, IsDistinct}
-use Rattle.cv_model.specs.Layers.{Opening, slots}
+use Rattle.std.specs.Prelude.{◌≡◌, ◌≤◌, ◌++◌, ◌∷◌, [], ℕ, Bool, false, nat_eq, List, map, take, length, Some, IfSome}
+use Rattle.std.specs.List.{AllByRecursion, IsDistinct, before_first}
+use Rattle.std.specs.Option.{option_map_or}
+use Rattle.cv_model.specs.Layers.{Opening, Project, slots}
 use Rattle.cv_model.specs.Paintings.{Painting}
 use Rattle.cv_model.specs.Views.{PixelGrid}
+use Rattle.cv_store.specs.Laws.{IsBehind}
 use Rattle.cv_store.specs.Stores.{StoreParts, project_of, id_of, input_in}
 use Rattle.cv_cache.specs.Caches.{painted_id}
 use Rattle.cv_event.specs.declared.entry.Act.{Act}
 use Rattle.cv_event.specs.declared.entry.Entry.{Entry}
 use Rattle.cv_event.specs.declared.slot.Slot.{Slot}
 use Rattle.cv_event.specs.States.{State, did, replay}
+use Rattle.cv_event.specs.Histories.{edits, start_of}
 use Rattle.cv_event.specs.Legality.{Allows, IsLegal}
-use Rattle.cv_tables.specs.Rows.{Row, input_of, owed, slot_layer, layer_id, WhileLive}
+use Rattle.cv_tables.specs.Rows.{Row, row_in, input_of, owed, slot_layer, layer_id, WhileLive}
 use Rattle.cv_tables.specs.Tabs.{Tab, Tables, state_of}
 
 -- a desk: its opening, the entries of its journal, how many more have a place set aside, and its tables
@@ -60,11 +63,27 @@ pub record Holds (t : Tables) (spare : ℕ) : Type 0 where
   pub shown : AllByRecursion IsWhole t.rows
   pub room : owed t.rows ≤ spare
 
--- a desk's journal is legal, and its tables are those of the state after it
+-- an entry starts a job of this number
+abbrev pub starts_job : ℕ → Entry → Bool
+starts_job j entry = option_map_or (nat_eq j) (start_of entry.act) false
+
+-- the entries before the start of a job
+abbrev pub before_start : ℕ → List Entry → List Entry
+before_start j journal = before_first (starts_job j) journal
+
+-- the store is the opened project behind the accepted edits of a journal, with their version and their revisions,
+-- and the one that a job took is it behind those before the job's start
+pub record IsRevised (opened : Project) (journal : List Entry) (t : Tables) : Type 0 where
+  pub store : IsBehind opened (edits journal) t.store
+  pub jobs : (j : ℕ) (row : Row) → row_in t.rows j ≡ Some row
+      → IsBehind opened (edits (before_start j journal)) row.store
+
+-- a desk's journal is legal, its tables are those of the state after it, and revisions are those of its edits
 pub record IsDesk (h : History) : Type 0 where
   pub legal : IsLegal h.opening h.journal
   pub shows : replay h.opening h.journal ≡ state h
   pub holds : Holds h.tables h.spare
+  pub revised : IsRevised h.opening.project h.journal h.tables
 
 -- ---- what a call does to a desk
 

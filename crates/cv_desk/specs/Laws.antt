@@ -8,7 +8,8 @@ use Rattle.cv_model.specs.Edits.{project_at}
 use Rattle.cv_model.specs.Layers.{Project, parts}
 use Rattle.cv_model.specs.Paintings.{Painting, composed}
 use Rattle.cv_model.specs.Pictures.{picture, picture_with}
-use Rattle.cv_store.specs.Stores.{project_of}
+use Rattle.cv_store.specs.Laws.{IsBehind}
+use Rattle.cv_store.specs.Stores.{project_of, stamps_in, input_in}
 use Rattle.cv_cache.specs.Caches.{painted_id}
 use Rattle.cv_event.specs.declared.entry.Entry.{Entry}
 use Rattle.cv_event.specs.declared.slot.Slot.{Slot}
@@ -18,7 +19,7 @@ use Rattle.cv_event.specs.Histories.{edits, cached}
 use Rattle.cv_event.specs.ShownLaws.{published_on}
 use Rattle.cv_tables.specs.Rows.{Row, job_of, row_in, painting_of, compose_of, whole_of}
 use Rattle.cv_tables.specs.Tabs.{Tab, PublishedJob, cached_of, taken_in}
-use Rattle.cv_desk.specs.Desks.{History, state, Notes, Stays, IsDesk}
+use Rattle.cv_desk.specs.Desks.{History, state, IsPresent, before_start, Notes, Stays, IsDesk}
 
 -- ---- a list of calls
 
@@ -82,11 +83,12 @@ pub record ShowsLast (s : State) (c : ℕ) (last : PublishedJob) : Type 0 where
       ≡ picture_with (project_of last.row.store) last.row.view (range_with_len 0 (length last.row.slots))
 
 -- the painted layers of a canvas are those that the definition of its cache names, in their order, each of the
--- present project
+-- present project, and with its present stamps
 pub record ShowsCanvas (h : History) (c : ℕ) (tab : Tab) : Type 0 where
   pub cache : map cached_of tab.paintings ≡ cached (present h) c
   pub images : AllByRecursion (IsOf (present h).project) tab.paintings
   pub last : IfSome tab.published (ShowsLast (present h) c)
+  pub inputs : AllByRecursion (IsPresent h.tables.store) tab.paintings
 
 -- a slot of a job is painted of its layer's parts in the job's project, at the job's view
 abbrev pub IsSlotOf : Row → Slot → Type 0
@@ -94,21 +96,38 @@ IsSlotOf row slot = IsSomeAnd (painting_of row.store row.view slot)
     (λ p. (parts (project_of row.store) slot.layer ≡ Some p.input.parts) × (p.view ≡ row.view))
 
 -- a job is the one that the journal knows; what is composed of its ready slots is the picture of these, and of all
--- slots that of its project, at its view
+-- slots that of its project, at its view; what it took has the version and the revisions of the edits before its start
 pub record ShowsJob (h : History) (j : ℕ) (row : Row) : Type 0 where
   pub job : job_in (present h).jobs j ≡ Some (job_of row)
   pub slots : AllByRecursion (IsSlotOf row) row.slots
   pub ready : composed (compose_of row) ≡ picture_with (project_of row.store) row.view (ready_from 0 row.slots)
   pub whole : composed (whole_of row) ≡ picture (project_of row.store) row.view
+  pub behind : IsBehind h.opening.project (edits (before_start j h.journal)) row.store
 
--- a desk is its history: the journal is legal, the project is that of its accepted edits, and each canvas and each
--- job shows what the definitions name
+-- a desk is its history: the journal is legal, the project is that of its accepted edits, and so are its version and
+-- its revisions, and each canvas and each job shows what the definitions name
 pub record IsKnown (h : History) : Type 0 where
   pub legal : IsLegal h.opening h.journal
   pub state : present h ≡ state h
   pub project : project_of h.tables.store ≡ project_at h.opening.project (edits h.journal) (length (edits h.journal))
   pub canvases : (c : ℕ) (tab : Tab) → slice_get h.tables.tabs c ≡ Some tab → ShowsCanvas h c tab
   pub jobs : (j : ℕ) (row : Row) → row_in h.tables.rows j ≡ Some row → ShowsJob h j row
+  pub behind : IsBehind h.opening.project (edits h.journal) h.tables.store
 
 abbrev pub DesksAreKnown : Type 0
 DesksAreKnown = (h : History) → IsDesk h → IsKnown h
+
+-- ---- stamps
+
+-- a layer that has equal stamps in two jobs of a desk has equal inputs there
+abbrev pub StampsTellInputs : Type 0
+StampsTellInputs =
+    (h : History) (j k id : ℕ) (a b : Row) → IsKnown h
+    → row_in h.tables.rows j ≡ Some a → row_in h.tables.rows k ≡ Some b
+    → stamps_in a.store id ≡ stamps_in b.store id → input_in a.store id ≡ input_in b.store id
+
+-- and so has one that has the present stamps in a job
+abbrev pub StampsTellPresentInputs : Type 0
+StampsTellPresentInputs =
+    (h : History) (j id : ℕ) (row : Row) → IsKnown h → row_in h.tables.rows j ≡ Some row
+    → stamps_in row.store id ≡ stamps_in h.tables.store id → input_in row.store id ≡ input_in h.tables.store id

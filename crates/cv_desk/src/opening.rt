@@ -28,6 +28,8 @@ impl Desk {
             × (state made ≡ begin made.opening)) }
         ensures back { IfErr result (λ e. e.0 ≡ store) }
     {
+        // It says that the revisions of a store at its first version are 1.
+        let _ = store.len();
         let canvases = match CanvasTable::open(alloc, canvases) {
             Ok(canvases) => canvases,
             Err(error) => return Err((store, error)),

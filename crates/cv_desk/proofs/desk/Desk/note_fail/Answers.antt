@@ -35,7 +35,7 @@ invariant_of-self c =
     } in
     let live = subst (λ n. OfJob (state n) c.args.job (λ j. j.ended ≡ None)) (sym c.self.view_is) c.requires in
     (ended_noted h how.NoMemory (act.Fail c.args.job) c.args.who c.args.job c.push.new.self.spare c.end.new.self c.push.new.self.entries
-    c.self.invariant live c.end.ensures c.push.ensures.entries c.push.ensures.spare live refl).0
+    c.self.invariant live c.end.ensures c.push.ensures.entries c.push.ensures.spare live refl refl refl).0
 
 pub returns : goal.returns
 returns c =
@@ -57,4 +57,4 @@ returns c =
     } in
     subst (λ n. Notes n new c.args.who (act.Fail c.args.job)) c.self.view_is
     (ended_noted h how.NoMemory (act.Fail c.args.job) c.args.who c.args.job c.push.new.self.spare c.end.new.self c.push.new.self.entries
-    c.self.invariant live c.end.ensures c.push.ensures.entries c.push.ensures.spare live refl).1
+    c.self.invariant live c.end.ensures c.push.ensures.entries c.push.ensures.spare live refl refl refl).1

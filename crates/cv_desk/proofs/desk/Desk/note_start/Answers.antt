@@ -2,11 +2,10 @@ use Rattle.std.proofs.Common.{◌≡◌, sym, subst, map, ◌+◌, ◌≤◌, �
 use Rattle.cv_event.specs.declared.entry.Act.TheVariants as act
 use Rattle.cv_event.specs.States.{view_on}
 use Rattle.cv_store.specs.Stores.{project_of}
-use Rattle.cv_tables.specs.Rows.{owed, new_row}
+use Rattle.cv_tables.specs.Rows.{owed}
 use Rattle.cv_tables.specs.Tabs.{Tab}
-use Rattle.cv_desk.specs.Desks.{History, state, Notes, Holds, KeepJobs}
-use Rattle.cv_desk.proofs.BasisLemmas.{jobs_started_kept}
-use Rattle.cv_desk.proofs.KeepingLemmas.{noted, start_holds, start_seen, started_rows}
+use Rattle.cv_desk.specs.Desks.{History, state, Notes}
+use Rattle.cv_desk.proofs.KeepingLemmas.{start_noted}
 use Rattle.cv_desk.proofs.desk.Desk.note_start.Goals as goal
 
 pub invariant_of-self : goal.invariant_of-self
@@ -21,16 +20,12 @@ invariant_of-self c =
       tables = record { store = c.self.inside.store; tabs = c.self.inside.canvases; rows = c.self.inside.jobs };
     } in
     let rows = c.start.new.self in
-    let a = act.Start c.args.canvas c.in-Ok.job in
     let room = subst (λ n. owed n.tables.rows + 2 ≤ n.spare) (sym c.self.view_is) c.requires.room in
     let view = subst (λ n. view_on (state n) c.args.canvas ≡ Some c.args.view) (sym c.self.view_is) c.requires.view in
     let few = subst (λ n. length n.tables.rows < 4294967295) (sym c.self.view_is) c.requires.few in
-    let holds = subst (λ l. Holds (record h.tables { rows = l }) c.push.new.self.spare) (sym c.in-Ok.ensures.ok)
-    (start_holds h.tables h.spare c.push.new.self.spare c.args.canvas c.args.view c.len.ensures.kept.distinct c.push.ensures.spare room c.self.invariant.holds) in
-    let both = noted h a c.args.who c.push.new.self.spare (record h.tables { rows = rows }) c.push.new.self.entries c.self.invariant
-    c.push.ensures.entries (started_rows h c.args.who c.args.canvas c.in-Ok.job c.args.view view c.in-Ok.ensures.number few)
-    (start_seen h c.args.who c.args.canvas c.in-Ok.job c.args.view rows view c.in-Ok.ensures.ok) holds
-    (subst (KeepJobs h.tables.rows) (sym c.in-Ok.ensures.ok) (jobs_started_kept c.args.canvas (new_row c.args.canvas h.tables.store c.args.view) h.tables.rows)) in
+    let both = start_noted h c.args.who c.args.canvas c.in-Ok.job c.push.new.self.spare c.args.view rows c.push.new.self.entries
+    c.self.invariant c.len.ensures.kept.distinct view c.in-Ok.ensures.number few c.in-Ok.ensures.ok c.push.ensures.entries
+    c.push.ensures.spare room in
     both.0
 
 pub returns-in-Ok-clause-ok : goal.returns-in-Ok-clause-ok
@@ -49,12 +44,9 @@ returns-in-Ok-clause-ok c =
     let room = subst (λ n. owed n.tables.rows + 2 ≤ n.spare) (sym c.self.view_is) c.requires.room in
     let view = subst (λ n. view_on (state n) c.args.canvas ≡ Some c.args.view) (sym c.self.view_is) c.requires.view in
     let few = subst (λ n. length n.tables.rows < 4294967295) (sym c.self.view_is) c.requires.few in
-    let holds = subst (λ l. Holds (record h.tables { rows = l }) c.push.new.self.spare) (sym c.in-Ok.ensures.ok)
-    (start_holds h.tables h.spare c.push.new.self.spare c.args.canvas c.args.view c.len.ensures.kept.distinct c.push.ensures.spare room c.self.invariant.holds) in
-    let both = noted h a c.args.who c.push.new.self.spare (record h.tables { rows = rows }) c.push.new.self.entries c.self.invariant
-    c.push.ensures.entries (started_rows h c.args.who c.args.canvas c.in-Ok.job c.args.view view c.in-Ok.ensures.number few)
-    (start_seen h c.args.who c.args.canvas c.in-Ok.job c.args.view rows view c.in-Ok.ensures.ok) holds
-    (subst (KeepJobs h.tables.rows) (sym c.in-Ok.ensures.ok) (jobs_started_kept c.args.canvas (new_row c.args.canvas h.tables.store c.args.view) h.tables.rows)) in
+    let both = start_noted h c.args.who c.args.canvas c.in-Ok.job c.push.new.self.spare c.args.view rows c.push.new.self.entries
+    c.self.invariant c.len.ensures.kept.distinct view c.in-Ok.ensures.number few c.in-Ok.ensures.ok c.push.ensures.entries
+    c.push.ensures.spare room in
     let new : History = record {
       opening = h.opening;
       journal = c.push.new.self.entries;

@@ -1,4 +1,4 @@
-use Rattle.std.proofs.Common.{sym, subst, map, ◌+◌, ◌≤◌}
+use Rattle.std.proofs.Common.{sym, subst, refl, map, ◌+◌, ◌≤◌}
 use Rattle.cv_event.specs.declared.entry.Act.TheVariants as act
 use Rattle.cv_store.specs.Stores.{project_of}
 use Rattle.cv_tables.specs.Rows.{owed}
@@ -27,7 +27,7 @@ invariant_of-self c =
     let holds = subst (λ l. Holds (record h.tables { tabs = l }) c.push.new.self.spare) (sym c.set_view.ensures)
     (view_holds h.tables h.spare c.push.new.self.spare c.args.canvas c.args.view c.push.ensures.spare room c.self.invariant.holds) in
     let both = noted h a c.args.who c.push.new.self.spare (record h.tables { tabs = tabs }) c.push.new.self.entries c.self.invariant
-    c.push.ensures.entries allowed (view_seen h c.args.who c.args.canvas c.args.view tabs c.set_view.ensures) holds (jobs_same h.tables.rows) in
+    c.push.ensures.entries allowed (view_seen h c.args.who c.args.canvas c.args.view tabs c.set_view.ensures) holds (jobs_same h.tables.rows) refl refl in
     both.0
 
 pub returns : goal.returns
@@ -48,7 +48,7 @@ returns c =
     let holds = subst (λ l. Holds (record h.tables { tabs = l }) c.push.new.self.spare) (sym c.set_view.ensures)
     (view_holds h.tables h.spare c.push.new.self.spare c.args.canvas c.args.view c.push.ensures.spare room c.self.invariant.holds) in
     let both = noted h a c.args.who c.push.new.self.spare (record h.tables { tabs = tabs }) c.push.new.self.entries c.self.invariant
-    c.push.ensures.entries allowed (view_seen h c.args.who c.args.canvas c.args.view tabs c.set_view.ensures) holds (jobs_same h.tables.rows) in
+    c.push.ensures.entries allowed (view_seen h c.args.who c.args.canvas c.args.view tabs c.set_view.ensures) holds (jobs_same h.tables.rows) refl refl in
     let new : History = record {
       opening = h.opening;
       journal = c.push.new.self.entries;

@@ -9,7 +9,7 @@ use Rattle.cv_desk.proofs.desk.Desk.open.Goals as goal
 pub invariant_of-result : goal.invariant_of-result
 invariant_of-result c =
     opened_desk c.args.store c.args.canvases.now c.in-Ok.canvases c.new.result c.new-2.result.entries c.new-2.result.spare
-    c.of.result.value c.of-2.result.value c.requires c.in-Ok.ensures c.new.ensures c.new-2.ensures c.of.ensures c.of-2.ensures
+    c.of.result.value c.of-2.result.value c.len.ensures.kept c.requires c.in-Ok.ensures c.new.ensures c.new-2.ensures c.of.ensures c.of-2.ensures
 
 pub returns-clause-ok : goal.returns-clause-ok
 returns-clause-ok c =

@@ -1,0 +1,5 @@
+use Rattle.cv_desk.proofs.LawLemmas.{stamps_tell_inputs}
+use Rattle.cv_desk.proofs.laws.stamps_tell_inputs.Goals as goal
+
+pub returns : goal.returns
+returns c = stamps_tell_inputs
