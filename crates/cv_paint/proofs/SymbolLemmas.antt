@@ -116,7 +116,7 @@ pub joined_symbols_are : (parts : Parts) (field : Field) (join : Join) (there : 
 unfolding feature_symbol
 joined_symbols_are parts field join there rule made is reads joined named found gives f =
     let read : option_and_then (joined_in there.contents join.key field.name) (text_of parts.own.contents join.local f)
-        ≡ style_text parts.own.style parts f =
+    ≡ style_text parts.own.style parts f =
     sym (ap (λ (j : Option Join). by_field parts field f j parts.join) named
     ∙ ap (λ (k : Option Core). by_field parts field f (Some join) k) found)
     ∙ joined_read parts field f reads joined in

@@ -1,7 +1,7 @@
 //! The cells of a grid at the centres of pixels.
 
-ghost use Rattle.std.specs.Prelude.{◌≡◌, ◌+◌, ◌<◌, ◌≤◌, ◌*◌, pos, ◌+ℤ◌, ◌*ℤ◌, ◌≤ℤ◌, IfSome, length, nat_le, nat_lt};
-ghost use Rattle.std.specs.Prelude.{ℕ, ◌&&◌, if◌then◌else◌, slice_index_or};
+ghost use Rattle.std.specs.Prelude.{◌≡◌, ◌+◌, ◌<◌, ◌≤◌, ◌*◌, pos, ◌+ℤ◌, ◌*ℤ◌, ◌≤ℤ◌, IfSome, length};
+ghost use Rattle.std.specs.Prelude.{ℕ, ◌&&◌, nat_le, nat_lt, if◌then◌else◌, slice_index_or};
 ghost use Rattle.cv_model.specs.Colours.{transparent};
 ghost use Rattle.cv_model.specs.Positions.{IsDoubled};
 ghost use Rattle.cv_model.specs.Views.{rise, centre_of};
@@ -182,7 +182,12 @@ pub fn cells_row(cells: &Cells, style: &Style, view: &View, j: u32, row: &mut [R
         let x = centre(view, i, 0).x;
         let column = column_at(cells, x);
         let end = together(cells, column, x, view, i, &sides);
-        put_colour(row, i, end, colour_by(style, cell_between(cells, column, line)));
+        put_colour(
+            row,
+            i,
+            end,
+            colour_by(style, cell_between(cells, column, line)),
+        );
         i = end;
     }
 }

@@ -1,7 +1,7 @@
 //! Which symbol each feature of a layer is drawn with: found once for a piece, by maps of texts.
 
 ghost use Rattle.std.specs.Prelude.{◌≡◌, ℕ, ◌≤◌, List, Option, Some, None, if◌then◌else◌, option_map};
-ghost use Rattle.std.specs.Prelude.{position, bytes_eq, option_and_then, true, ◌∷◌, [], OnOk, IfOk, IfErr};
+ghost use Rattle.std.specs.Prelude.{bytes_eq, option_and_then, true, ◌∷◌, [], OnOk, IfOk, IfErr};
 ghost use Rattle.std.specs.Option.{option_copied, option_or, unwrap_or};
 ghost use Rattle.cv_model.specs.Styles.{class_of};
 ghost use Rattle.cv_model.specs.Texts.{joined_in, feature_symbol};
@@ -11,6 +11,7 @@ ghost use Rattle.cv_paint.specs.Symbols.{given_by, symbol_by, text_at, column_of
 ghost use Rattle.cv_paint.specs.Symbols.{IsRuleOf};
 
 use crate::error::PaintError;
+use crate::texts::column;
 use cv_layer::{FeatureRow, LayerContents, LayerInput, Table};
 use cv_model::{Class, Field, NoMemory, Style, Symbol, Text};
 use cv_outside::Stop;
@@ -79,7 +80,8 @@ fn keep<'a>(
 
 /// The symbols of classes, each by its text; of those with the same text the first one's.
 fn class_symbols<'a>(alloc: Global, classes: &'a [Class]) -> Result<Given<'a>, NoMemory>
-    ensures { IfOk result (λ made. (q : List ℕ) → given_by made q ≡ option_map Some (class_of classes.now q)) }
+    ensures { IfOk result (λ made. (q : List ℕ)
+        → given_by made q ≡ option_map Some (class_of classes.now q)) }
 {
     let mut given = HashMap::with_capacity(alloc, classes.len())?;
     for class in classes {
@@ -184,7 +186,7 @@ fn joined_rule<'a, S: Stop>(
     match there {
         LayerContents::Text(table) => {
             let columns = table.columns();
-            let (key, column) = (column_in(columns, key), column_in(columns, name));
+            let (key, column) = (column(columns, key), column(columns, name));
             let given = joined_symbols(alloc, table, key, column, rule, stop)?;
             Ok(Rule::ByText(given, other))
         }
@@ -192,21 +194,12 @@ fn joined_rule<'a, S: Stop>(
     }
 }
 
-/// The place of the first column of a name.
-fn column_in(columns: &[Text], name: &Text) -> Option<usize>
-    ensures { result ≡ position (bytes_eq name.now) columns.now }
-{
-    columns
-        .iter()
-        .position(|column| name.as_str() == column.as_str())
-}
-
 /// The place of a layer's first column of a name; a grid has no columns.
 fn column_of(contents: &LayerContents, name: &Text) -> Option<usize>
     ensures { result ≡ column_of (contents_seen contents.now) name.now }
 {
     match contents {
-        LayerContents::Text(table) => column_in(table.columns(), name),
+        LayerContents::Text(table) => column(table.columns(), name),
         LayerContents::Grid(_) => None,
     }
 }
@@ -306,14 +299,7 @@ impl<'a> Symbols<'a> {
                 rule,
             });
         };
-        let rule = joined_rule(
-            alloc,
-            there.contents(),
-            &join.key,
-            &field.name,
-            &rule,
-            stop,
-        )?;
+        let rule = joined_rule(alloc, there.contents(), &join.key, &field.name, &rule, stop)?;
         let column = column_of(input.layer().contents(), &join.local);
         Ok(Symbols {
             input,

@@ -14,9 +14,9 @@ returns-in_ok-given-in-Text-clause-ok g c = λ text.
     let table = c.in-Text.table in
     let columns = c.columns-columns.ensures in
     table_joins c.args.rule.now table.columns table.features key name (given_by c.in_ok-given-in-Text.given) _
-    c.column_in-key.result c.column_in-column.result
-    (c.column_in-key.ensures ∙ ap (position (bytes_eq key)) columns)
-    (c.column_in-column.ensures ∙ ap (position (bytes_eq name)) columns)
+    c.column-key.result c.column-column.result
+    (c.column-key.ensures ∙ ap (position (bytes_eq key)) columns)
+    (c.column-column.ensures ∙ ap (position (bytes_eq name)) columns)
     c.symbol_by-other.ensures c.in_ok-given-in-Text.ensures.ok text
     ∙ ap (λ (there : Contents). symbol_by c.args.rule.now (option_and_then (joined_in there key name) text))
     (ap contents_seen (sym c.in-Text.is))
