@@ -1,6 +1,6 @@
 //! Joins: the symbols of features by the texts that they take from another layer.
 
-ghost use Rattle.std.specs.Prelude.{◌≡◌, false, IfOk};
+ghost use Rattle.std.specs.Prelude.{◌≡◌, ◌+◌, false, length, IfOk, OnOk};
 ghost use Rattle.cv_model.specs.ProjectFiles.{is_ramp};
 
 use crate::layers::{fill, layer, single};
@@ -25,7 +25,9 @@ fn put_class(
     classes: &mut Sequence<Class>,
     value: &str,
     colour: Rgba,
-) -> Result<(), NoMemory> {
+) -> Result<(), NoMemory>
+    ensures { OnOk result (length classes.new ≡ length classes.old + 1) }
+{
     classes.put(Class {
         value: Text::of(alloc, value)?,
         symbol: fill(colour),

@@ -1,7 +1,7 @@
 //! The four layers of a worked project at 800 by 600 pixels, each by itself: worked pixels, and that both
 //! painters agree.
 
-ghost use Rattle.std.specs.Prelude.{◌≡◌, false, IfOk};
+ghost use Rattle.std.specs.Prelude.{◌≡◌, ◌≤◌, false, IfOk};
 ghost use Rattle.cv_model.specs.ProjectFiles.{is_ramp};
 
 use crate::layers::{fill, grid, layer, piece, single};
@@ -75,7 +75,10 @@ fn by_kind(alloc: Global) -> Result<Style, NoMemory>
 }
 
 /// A symbol of a marker alone.
-fn marker(shape: Shape, colour: Rgba, size: u8) -> Symbol {
+fn marker(shape: Shape, colour: Rgba, size: u8) -> Symbol
+    requires { 1 ≤ size }
+{
+    let size = u32::from(size);
     Symbol {
         fill: None,
         pen: None,
