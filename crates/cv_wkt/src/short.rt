@@ -26,9 +26,9 @@ struct Size {
 
 /// A coordinate at the front of a text, and how many bytes it has.
 #[derive(Clone, Copy)]
-struct Spelt {
-    millionths: i64,
-    len: usize,
+pub struct Spelt {
+    pub millionths: i64,
+    pub len: usize,
 }
 
 /// A point at the front of a text, and how many bytes it has with the comma behind it.
@@ -129,7 +129,7 @@ fn unsigned(text: &[u8]) -> Option<Size>
 
 /// The same, perhaps behind a minus.
 #[inline]
-fn coordinate(text: &[u8]) -> Option<Spelt>
+pub fn coordinate(text: &[u8]) -> Option<Spelt>
     ensures { IfSome result (λ s. IsSpelt text.now s.millionths s.len) }
 {
     match text.split_first() {

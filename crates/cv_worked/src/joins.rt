@@ -11,8 +11,10 @@ use std::alloc::Global;
 use std::test::Fail;
 
 /// Three squares from left to right, with the keys a, b and c.
-const SQUARES: &str =
-    "wkt;key\nPOLYGON((0 0,1 0,1 1,0 1));a\nPOLYGON((1 0,2 0,2 1,1 1));b\nPOLYGON((2 0,3 0,3 1,2 1));c\n";
+const SQUARES: &str = "wkt;key\n\
+    POLYGON((0 0,1 0,1 1,0 1));a\n\
+    POLYGON((1 0,2 0,2 1,1 1));b\n\
+    POLYGON((2 0,3 0,3 1,2 1));c\n";
 
 /// An opaque colour.
 fn opaque(r: u8, g: u8, b: u8) -> Rgba {

@@ -33,8 +33,10 @@ const CLEAR: Rgba = Rgba {
 const HEIGHTS: &str =
     "ncols 2\nnrows 2\nxllcorner 0\nyllcorner 0\ncellsize 400\nNODATA_value -9999\n100 200\n-9999 300\n";
 
-const LAKES: &str =
-    "wkt;kind\nPOLYGON ((100 100,300 100,300 300,100 300,100 100),(150 150,250 150,250 250,150 250,150 150));deep\nPOLYGON ((400 100,500 100,500 200,400 100));dry\n";
+const LAKES: &str = "wkt;kind\n\
+    POLYGON ((100 100,300 100,300 300,100 300,100 100),\
+    (150 150,250 150,250 250,150 250,150 150));deep\n\
+    POLYGON ((400 100,500 100,500 200,400 100));dry\n";
 
 const ROADS: &str = "wkt\nLINESTRING (0 450, 800 450)\n";
 
