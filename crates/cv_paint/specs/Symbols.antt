@@ -1,9 +1,9 @@
 -- Which symbol a feature is drawn with, by what is found once for a piece.
 --
 -- Source: this project's own.
-use Rattle.std.specs.Prelude.{ℕ, ◌≡◌, Bool, false, bytes_eq, List, Option, Some, None, option_map, option_and_then}
+use Rattle.std.specs.Prelude.{ℕ, ◌≡◌, false, bytes_eq, List, Option, Some, None, option_map, option_and_then}
 use Rattle.std.specs.Prelude.{find, position, slice_get}
-use Rattle.std.specs.Option.{option_copied, option_map_or, option_or, unwrap_or}
+use Rattle.std.specs.Option.{option_copied, option_map_or, unwrap_or}
 use Rattle.std.specs.HashMap.{HashMap, get_by}
 use denote.Ref.{Bor}
 use Rattle.cv_model.specs.declared.feature.Feature.{Feature}

@@ -1,5 +1,4 @@
-use Rattle.std.proofs.Common.{◌≡◌, ◌&&◌, ◌≤◌, nat_le, nat_lt, Bool, if◌then◌else◌, get_or, ap, ◌∙◌, ⊎_elim, arith}
-use Rattle.std.proofs.lemmas.Bool.{cases_lt}
+use Rattle.std.proofs.Common.{◌≡◌, ◌&&◌, nat_le, nat_lt, Bool, if◌then◌else◌, get_or, ap, ◌∙◌, arith}
 use Rattle.std.proofs.lemmas.Bool.Decides.{nat_tests}
 use Rattle.cv_model.specs.Colours.{transparent}
 use Rattle.cv_paint.proofs.cells.put_colour.Goals as goal

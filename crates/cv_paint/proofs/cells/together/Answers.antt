@@ -1,6 +1,6 @@
-use Rattle.std.proofs.Common.{ap, sym, subst, ◌∙◌, ◌<◌, ℤ, ◌<ℤ◌, ◌≤ℤ◌, pos, w64, FitsSigned, rules, arith}
+use Rattle.std.proofs.Common.{sym, subst, ◌∙◌, ℤ, ◌<ℤ◌, ◌≤ℤ◌, pos, w64, FitsSigned, rules, arith}
 use Rattle.std.proofs.lemmas.Int.{ints, to_z-of_z}
-use Rattle.cv_model.specs.Views.{PixelGrid, centre_of}
+use Rattle.cv_model.specs.Views.{PixelGrid}
 use Rattle.cv_paint.specs.Cells.{LieTogether}
 use Rattle.cv_paint.proofs.CellLemmas.{together_in, together_before, together_behind}
 use Rattle.cv_paint.proofs.cells.together.Goals as goal

@@ -1,4 +1,4 @@
-use Rattle.std.proofs.Common.{◌≡◌, ◌∙◌, ap, sym, bytes_eq, Option, List, ℕ}
+use Rattle.std.proofs.Common.{◌∙◌, ap, sym, bytes_eq}
 use Rattle.std.specs.Prelude.{position, option_and_then}
 use Rattle.cv_model.specs.Layers.{Contents}
 use Rattle.cv_model.specs.Texts.{joined_in}

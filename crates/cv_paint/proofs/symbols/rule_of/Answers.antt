@@ -1,4 +1,4 @@
-use Rattle.std.proofs.Common.{◌≡◌, ◌∙◌, ap, sym, subst, Option, List, Some, ℕ}
+use Rattle.std.proofs.Common.{◌≡◌, ◌∙◌, ap, sym, List, Some, ℕ}
 use Rattle.std.specs.Prelude.{option_map, option_and_then}
 use Rattle.std.specs.Option.{unwrap_or}
 use Rattle.cv_model.specs.declared.style.Class.{Class}

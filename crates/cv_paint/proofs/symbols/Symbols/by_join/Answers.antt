@@ -1,6 +1,5 @@
-use Rattle.std.proofs.Common.{◌≡◌, ◌∙◌, ap, sym, subst, Option, List, Some, None, ℕ}
+use Rattle.std.proofs.Common.{◌≡◌, ◌∙◌, ap, sym, subst, Option, ℕ}
 use Rattle.std.specs.Prelude.{option_and_then}
-use Rattle.cv_model.specs.declared.layer.Join.{Join}
 use Rattle.cv_model.specs.Layers.{Contents, Core}
 use Rattle.cv_model.specs.Texts.{joined_in}
 use Rattle.cv_paint.specs.Symbols.{AreSymbols, column_of, symbol_by}

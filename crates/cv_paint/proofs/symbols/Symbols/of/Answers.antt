@@ -1,4 +1,4 @@
-use Rattle.std.proofs.Common.{◌≡◌, ◌∙◌, ap, sym, subst, Option, List, None, ℕ}
+use Rattle.std.proofs.Common.{◌≡◌, ◌∙◌, ap, sym, subst, Option, ℕ}
 use Rattle.cv_model.specs.declared.style.Style.{Style}
 use Rattle.cv_model.specs.Layers.{Contents, Core}
 use Rattle.cv_paint.specs.Symbols.{AreSymbols, IsRuleOf, column_of, field_of}
