@@ -4,6 +4,7 @@ pub mod LayingLemmas
 pub mod InkLemmas
 pub mod MaskLemmas
 pub mod CellLemmas
+pub mod SymbolLemmas
 pub mod PaintedLemmas
 pub mod TableLemmas
 pub mod FarLemmas

@@ -3,6 +3,7 @@ pub mod Layings
 pub mod Inks
 pub mod Finish
 pub mod Masks
+pub mod Symbols
 pub mod Cells
 pub mod Far
 pub mod Windows

@@ -10,10 +10,10 @@ ghost use Rattle.cv_paint.specs.Costs.{feature_cost, features_cost};
 use crate::error::PaintError;
 use crate::far::is_missed;
 use crate::layings::{Workspace, lay_geometry};
-use crate::texts::feature_symbol;
+use crate::symbols::Symbols;
 use cv_canvas::Canvas;
 use cv_geom::Steps;
-use cv_layer::{FeatureRow, LayerInput, Table};
+use cv_layer::{FeatureRow, Table};
 use cv_model::{NoMemory, View};
 use cv_outside::Stop;
 use std::sync::ledger::Ledger;
@@ -23,19 +23,19 @@ use std::sync::ledger::Ledger;
 fn lay_row<C: Canvas, L: Ledger>(
     canvas: &mut C,
     row: &FeatureRow,
-    input: &LayerInput,
+    symbols: &Symbols,
     view: &View,
     work: &mut Workspace,
     steps: &mut Steps<L>,
 ) -> Result<(), NoMemory>
     requires size { IsSized view.now (C.frame canvas.old) }
-    requires ink { TakesLayer (C.frame canvas.old).ink input.now.parts }
+    requires ink { TakesLayer (C.frame canvas.old).ink symbols.now }
     ensures frame { C.frame canvas.new ≡ C.frame canvas.old }
-    ensures laid { OnOk result (Lays view.now (λ p. feature_strokes input.now.parts view.now p row.now)
+    ensures laid { OnOk result (Lays view.now (λ p. feature_strokes symbols.now view.now p row.now)
         (C.at canvas.old) (C.at canvas.new)) }
     ensures cost { steps.new ≤ steps.old + feature_cost view.now row.now }
 {
-    let Some(symbol) = feature_symbol(input, row) else {
+    let Some(symbol) = symbols.symbol(row) else {
         return Ok(());
     };
     let Some(geometry) = row.geometry() else {
@@ -52,21 +52,21 @@ fn lay_row<C: Canvas, L: Ledger>(
 fn lay_rows<C: Canvas, L: Ledger>(
     canvas: &mut C,
     rows: &[FeatureRow],
-    input: &LayerInput,
+    symbols: &Symbols,
     view: &View,
     work: &mut Workspace,
     steps: &mut Steps<L>,
 ) -> Result<(), NoMemory>
     requires size { IsSized view.now (C.frame canvas.old) }
-    requires ink { TakesLayer (C.frame canvas.old).ink input.now.parts }
+    requires ink { TakesLayer (C.frame canvas.old).ink symbols.now }
     ensures frame { C.frame canvas.new ≡ C.frame canvas.old }
     ensures laid { OnOk result (Lays view.now
-        (λ p. flat_map (feature_strokes input.now.parts view.now p) rows.now)
+        (λ p. flat_map (feature_strokes symbols.now view.now p) rows.now)
         (C.at canvas.old) (C.at canvas.new)) }
     ensures cost { steps.new ≤ steps.old + features_cost view.now rows.now }
 {
     for row in rows {
-        lay_row(canvas, row, input, view, work, steps)?;
+        lay_row(canvas, row, symbols, view, work, steps)?;
     }
     Ok(())
 }
@@ -76,18 +76,18 @@ fn lay_rows<C: Canvas, L: Ledger>(
 pub fn lay_table<C: Canvas, S: Stop, L: Ledger>(
     canvas: &mut C,
     table: &Table,
-    input: &LayerInput,
+    symbols: &Symbols,
     view: &View,
     work: &mut Workspace,
     stop: &mut S,
     steps: &mut Steps<L>,
 ) -> Result<(), PaintError>
     requires size { IsSized view.now (C.frame canvas.old) }
-    requires ink { TakesLayer (C.frame canvas.old).ink input.now.parts }
+    requires ink { TakesLayer (C.frame canvas.old).ink symbols.now }
     ensures frame { C.frame canvas.new ≡ C.frame canvas.old }
     ensures counts { S.yeses stop.old ≤ S.yeses stop.new }
     ensures laid { OnOk result (Lays view.now
-        (λ p. flat_map (feature_strokes input.now.parts view.now p) table.now.features)
+        (λ p. flat_map (feature_strokes symbols.now view.now p) table.now.features)
         (C.at canvas.old) (C.at canvas.new)) }
     ensures cost { steps.new ≤ steps.old + features_cost view.now table.now.features }
     ensures err { IfErr result (λ e. StopCause e (S.yeses stop.old) (S.yeses stop.new)) }
@@ -99,7 +99,7 @@ pub fn lay_table<C: Canvas, S: Stop, L: Ledger>(
             return Err(PaintError::Stopped);
         }
         let run = rows.run_from(at);
-        lay_rows(canvas, run, input, view, work, steps)?;
+        lay_rows(canvas, run, symbols, view, work, steps)?;
         at += run.len() as u64;
     }
     Ok(())

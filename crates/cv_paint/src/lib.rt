@@ -21,6 +21,7 @@ mod sides;
 mod steps;
 mod strips;
 mod strokes;
+mod symbols;
 mod texts;
 mod whole;
 mod windows;

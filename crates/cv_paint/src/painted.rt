@@ -19,6 +19,7 @@ use crate::finish::{put_cells, put_rows};
 use crate::inks::ink_of;
 use crate::layings::Workspace;
 use crate::masks::cover_table;
+use crate::symbols::Symbols;
 use cv_canvas::{Canvas, CountCanvas, Cover, OpaqueCanvas, PixelCanvas};
 use cv_geom::Steps;
 use cv_layer::{LayerContents, LayerInput, Table};
@@ -80,7 +81,7 @@ fn paint_on<C: Canvas, S: Stop, L: Ledger>(
     alloc: Global,
     canvas: &mut C,
     table: &Table,
-    input: &LayerInput,
+    symbols: &Symbols,
     mask: &Option<Cover>,
     view: &View,
     work: &mut Workspace,
@@ -89,17 +90,17 @@ fn paint_on<C: Canvas, S: Stop, L: Ledger>(
     pixels: &mut RgbaList,
 ) -> Result<(), PaintError>
     requires size { IsSized view.now (C.frame canvas.old) }
-    requires ink { TakesLayer (C.frame canvas.old).ink input.now.parts }
+    requires ink { TakesLayer (C.frame canvas.old).ink symbols.now }
     requires clear { C.at canvas.old ≡ (λ i j. transparent) }
     requires mask { IsMaskOf view.now mask.now }
     ensures counts { S.yeses stop.old ≤ S.yeses stop.new }
     ensures ok { OnOk result (pixels.new ≡ pixels.old ++ pixels_of view.now.w view.now.h (masked mask.now
-        (λ i j. laid (flat_map (feature_strokes input.now.parts view.now (centre_of view.now i j))
+        (λ i j. laid (flat_map (feature_strokes symbols.now view.now (centre_of view.now i j))
         table.now.features)))) }
     ensures err { IfErr result (λ e. StopCause e (S.yeses stop.old) (S.yeses stop.new)) }
     ensures cost { steps.new ≤ steps.old + (features_cost view.now table.now.features + view_size view.now) }
 {
-    lay_table(canvas, table, input, view, work, stop, steps)?;
+    lay_table(canvas, table, symbols, view, work, stop, steps)?;
     put_rows(alloc, &*canvas, mask, view, stop, steps, pixels)?;
     Ok(())
 }
@@ -109,7 +110,7 @@ fn paint_ink<S: Stop, L: Ledger>(
     alloc: Global,
     ink: Rgba,
     table: &Table,
-    input: &LayerInput,
+    symbols: &Symbols,
     mask: &Option<Cover>,
     view: &View,
     work: &mut Workspace,
@@ -117,11 +118,11 @@ fn paint_ink<S: Stop, L: Ledger>(
     steps: &mut Steps<L>,
     pixels: &mut RgbaList,
 ) -> Result<(), PaintError>
-    requires ink { is_ink_of ink input.now.parts.own.style ≡ true }
+    requires ink { is_ink_of ink symbols.now.own.style ≡ true }
     requires mask { IsMaskOf view.now mask.now }
     ensures counts { S.yeses stop.old ≤ S.yeses stop.new }
     ensures ok { OnOk result (pixels.new ≡ pixels.old ++ pixels_of view.now.w view.now.h (masked mask.now
-        (λ i j. laid (flat_map (feature_strokes input.now.parts view.now (centre_of view.now i j))
+        (λ i j. laid (flat_map (feature_strokes symbols.now view.now (centre_of view.now i j))
         table.now.features)))) }
     ensures err { IfErr result (λ e. StopCause e (S.yeses stop.old) (S.yeses stop.new)) }
     ensures cost { steps.new ≤ steps.old + (features_cost view.now table.now.features + view_size view.now) }
@@ -132,7 +133,7 @@ fn paint_ink<S: Stop, L: Ledger>(
             alloc,
             &mut canvas,
             table,
-            input,
+            symbols,
             mask,
             view,
             work,
@@ -146,7 +147,7 @@ fn paint_ink<S: Stop, L: Ledger>(
             alloc,
             &mut canvas,
             table,
-            input,
+            symbols,
             mask,
             view,
             work,
@@ -161,7 +162,7 @@ fn paint_ink<S: Stop, L: Ledger>(
 fn paint_table<S: Stop, L: Ledger>(
     alloc: Global,
     table: &Table,
-    input: &LayerInput,
+    symbols: &Symbols,
     mask: &Option<Cover>,
     view: &View,
     work: &mut Workspace,
@@ -172,15 +173,15 @@ fn paint_table<S: Stop, L: Ledger>(
     requires { IsMaskOf view.now mask.now }
     ensures counts { S.yeses stop.old ≤ S.yeses stop.new }
     ensures ok { OnOk result (pixels.new ≡ pixels.old ++ pixels_of view.now.w view.now.h (masked mask.now
-        (λ i j. laid (flat_map (feature_strokes input.now.parts view.now (centre_of view.now i j))
+        (λ i j. laid (flat_map (feature_strokes symbols.now view.now (centre_of view.now i j))
         table.now.features)))) }
     ensures err { IfErr result (λ e. StopCause e (S.yeses stop.old) (S.yeses stop.new)) }
     ensures cost { steps.new ≤ steps.old + (features_cost view.now table.now.features + view_size view.now) }
 {
-    let layer = input.layer();
+    let layer = symbols.input().layer();
     match ink_of(layer.style()) {
         Some(ink) => paint_ink(
-            alloc, ink, table, input, mask, view, work, stop, steps, pixels,
+            alloc, ink, table, symbols, mask, view, work, stop, steps, pixels,
         ),
         None => {
             let mut canvas = PixelCanvas::new(alloc, view.w, view.h)?;
@@ -188,7 +189,7 @@ fn paint_table<S: Stop, L: Ledger>(
                 alloc,
                 &mut canvas,
                 table,
-                input,
+                symbols,
                 mask,
                 view,
                 work,
@@ -203,7 +204,7 @@ fn paint_table<S: Stop, L: Ledger>(
 /// Puts the pixels of a layer at a view behind others, row by row from the top.
 pub fn paint_view<S: Stop, L: Ledger>(
     alloc: Global,
-    input: &LayerInput,
+    symbols: &Symbols,
     view: &View,
     stop: &mut S,
     steps: &mut Steps<L>,
@@ -211,17 +212,18 @@ pub fn paint_view<S: Stop, L: Ledger>(
 ) -> Result<(), PaintError>
     ensures counts { S.yeses stop.old ≤ S.yeses stop.new }
     ensures ok { OnOk result
-        (pixels.new ≡ pixels.old ++ pixels_of view.now.w view.now.h (pixel input.now.parts view.now)) }
+        (pixels.new ≡ pixels.old ++ pixels_of view.now.w view.now.h (pixel symbols.now view.now)) }
     ensures err { IfErr result (λ e. StopCause e (S.yeses stop.old) (S.yeses stop.new)) }
-    ensures cost { steps.new ≤ steps.old + view_cost view.now input.now.parts }
+    ensures cost { steps.new ≤ steps.old + view_cost view.now symbols.now }
 {
+    let input = symbols.input();
     let mut work = Workspace::new(alloc);
     let mask = mask_of(alloc, input, view, &mut work, stop, steps)?;
     let layer = input.layer();
     match layer.contents() {
         LayerContents::Text(table) => {
             paint_table(
-                alloc, table, input, &mask, view, &mut work, stop, steps, pixels,
+                alloc, table, symbols, &mask, view, &mut work, stop, steps, pixels,
             )?;
             Ok(())
         }

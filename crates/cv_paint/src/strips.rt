@@ -10,6 +10,7 @@ ghost use Rattle.cv_paint.specs.Windows.{LiesInView, LieInView};
 
 use crate::error::PaintError;
 use crate::painted::paint_view;
+use crate::symbols::Symbols;
 use crate::windows::window;
 use cv_geom::Steps;
 use cv_layer::{LayerInput, Piece, Rect, StripImages, Strips};
@@ -29,7 +30,7 @@ fn has_pixels(rect: Rect) -> bool
 /// Puts the pixels of a rectangle of a layer at a view behind others, row by row from its top.
 fn paint_rect<S: Stop, L: Ledger>(
     alloc: Global,
-    input: &LayerInput,
+    symbols: &Symbols,
     view: &View,
     rect: Rect,
     stop: &mut S,
@@ -39,22 +40,22 @@ fn paint_rect<S: Stop, L: Ledger>(
     requires { LiesInView view.now rect }
     ensures counts { S.yeses stop.old ≤ S.yeses stop.new }
     ensures ok { OnOk result
-        (pixels.new ≡ pixels.old ++ rect_pixels (pixel input.now.parts view.now) rect) }
+        (pixels.new ≡ pixels.old ++ rect_pixels (pixel symbols.now view.now) rect) }
     ensures err { IfErr result (λ e. StopCause e (S.yeses stop.old) (S.yeses stop.new)) }
-    ensures cost { steps.new ≤ steps.old + rect_cost input.now.parts rect }
+    ensures cost { steps.new ≤ steps.old + rect_cost symbols.now rect }
 {
     if !has_pixels(rect) {
         return Ok(());
     }
     let part = window(view, rect);
-    paint_view(alloc, input, &part, stop, steps, pixels)?;
+    paint_view(alloc, symbols, &part, stop, steps, pixels)?;
     Ok(())
 }
 
 /// The same, of a rectangle that may not be there.
 fn paint_some<S: Stop, L: Ledger>(
     alloc: Global,
-    input: &LayerInput,
+    symbols: &Symbols,
     view: &View,
     rect: Option<Rect>,
     stop: &mut S,
@@ -64,12 +65,12 @@ fn paint_some<S: Stop, L: Ledger>(
     requires { IfSome rect (LiesInView view.now) }
     ensures counts { S.yeses stop.old ≤ S.yeses stop.new }
     ensures ok { OnOk result (pixels.new ≡ pixels.old
-        ++ option_map_or (rect_pixels (pixel input.now.parts view.now)) rect []) }
+        ++ option_map_or (rect_pixels (pixel symbols.now view.now)) rect []) }
     ensures err { IfErr result (λ e. StopCause e (S.yeses stop.old) (S.yeses stop.new)) }
-    ensures cost { steps.new ≤ steps.old + option_map_or (rect_cost input.now.parts) rect 0 }
+    ensures cost { steps.new ≤ steps.old + option_map_or (rect_cost symbols.now) rect 0 }
 {
     match rect {
-        Some(rect) => paint_rect(alloc, input, view, rect, stop, steps, pixels),
+        Some(rect) => paint_rect(alloc, symbols, view, rect, stop, steps, pixels),
         None => Ok(()),
     }
 }
@@ -101,8 +102,9 @@ pub fn strips_painted<S: Stop, L: Ledger>(
     let (first, second) = (strips.first, strips.second);
     let room = size_of(first).saturating_add(size_of(second));
     let mut pixels = RgbaList::with_room(alloc, room)?;
-    paint_some(alloc, input, view, first, stop, steps, &mut pixels)?;
-    paint_some(alloc, input, view, second, stop, steps, &mut pixels)?;
+    let symbols = Symbols::of(alloc, input, stop)?;
+    paint_some(alloc, &symbols, view, first, stop, steps, &mut pixels)?;
+    paint_some(alloc, &symbols, view, second, stop, steps, &mut pixels)?;
     Ok(pixels)
 }
 

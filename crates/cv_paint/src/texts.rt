@@ -11,7 +11,7 @@ use cv_model::{Field, Join, Style, Symbol, Text};
 use cv_symbol::symbol;
 
 /// The place of the first column of a name.
-fn column(columns: &[Text], name: &Text) -> Option<usize>
+pub fn column(columns: &[Text], name: &Text) -> Option<usize>
     ensures { result ≡ position (bytes_eq name.now) columns.now }
 {
     columns

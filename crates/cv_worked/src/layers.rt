@@ -7,7 +7,8 @@ use cv_dtext::{TextOptions, read};
 use cv_geom::view_of;
 use cv_layer::{Layer, LayerInput, Piece, SharedLayer};
 use cv_model::{
-    Delimiter, Extent, FeatureList, Join, LayerData, Pen, Rgba, Room, Style, Symbol, Text, View,
+    Delimiter, Extent, FeatureList, Join, LayerData, Pen, Ramp, Rgba, Room, Style, Symbol, Text,
+    View,
 };
 use std::alloc::{AllocError, Global};
 use std::test::Fail;
@@ -85,6 +86,24 @@ pub fn single(
     ensures join { IfOk result (λ made. made.core.join ≡ None) }
 {
     layer(alloc, id, text, Style::Single(symbol), mask, None)
+}
+
+/// The layer of the grid in a text, coloured by a ramp.
+pub fn grid(alloc: Global, id: u32, text: &str, ramp: Ramp) -> Result<SharedLayer, Fail>
+    ensures id { IfOk result (λ made. made.core.id ≡ id) }
+    ensures mask { IfOk result (λ made. made.core.mask ≡ None) }
+    ensures join { IfOk result (λ made. made.core.join ≡ None) }
+{
+    let bytes = text.as_bytes();
+    if bytes.len() > 10_000 {
+        return Err(Fail::from(AllocError));
+    }
+    let contents = LayerData::Grid(cv_grid::read(alloc, bytes, 1000)?);
+    let layer = Layer::of(alloc, id, Style::Ramp(ramp), None, None, contents, 1)?;
+    match SharedLayer::of(alloc, layer) {
+        Ok(shared) => Ok(shared),
+        Err(refused) => Err(Fail::from(refused.1)),
+    }
 }
 
 /// The view of so many map units, a pixel each.

@@ -10,9 +10,15 @@ use std::alloc::Global;
 #[cfg(test)]
 mod graduated;
 #[cfg(test)]
+mod grids;
+#[cfg(test)]
+mod joins;
+#[cfg(test)]
 mod layers;
 #[cfg(test)]
 mod random;
+#[cfg(test)]
+mod real;
 #[cfg(test)]
 mod strips;
 #[cfg(test)]

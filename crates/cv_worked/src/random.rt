@@ -1,6 +1,7 @@
 //! Random layers, from seeds: painted by runs as by testing each feature at each pixel centre.
 
 use crate::layers::{piece, single};
+use crate::marks;
 use cv_layer::{LayerInput, Piece};
 use cv_model::{Marker, NoMemory, Pen, Rgba, Shape, Symbol};
 use cv_outside::Never;
@@ -9,7 +10,7 @@ use std::alloc::Global;
 use std::test::Fail;
 
 /// A number up to 255, of the sequence that a seed determines.
-fn next(seed: &mut u32) -> u8 {
+pub fn next(seed: &mut u32) -> u8 {
     *seed = seed.wrapping_mul(1_664_525).wrapping_add(1_013_904_223);
     (*seed >> 24) as u8
 }
@@ -100,7 +101,7 @@ fn alone(alloc: Global, seed: &mut u32, shape: Shape) -> Result<Piece, Fail> {
 }
 
 /// How many pixels of a piece are the same by both painters, and how many aren't clear.
-fn agreement(alloc: Global, piece: &Piece) -> Result<(usize, usize), Fail> {
+pub fn agreement(alloc: Global, piece: &Piece) -> Result<(usize, usize), Fail> {
     let by_runs = paint(alloc, piece, &mut Never)?;
     let by_tests = plain(alloc, piece, &mut Never)?;
     let (mut same, mut seen) = (0usize, 0usize);
@@ -115,6 +116,20 @@ fn agreement(alloc: Global, piece: &Piece) -> Result<(usize, usize), Fail> {
         seen = seen.saturating_add(usize::from(one.a > 0));
     }
     Ok((same, seen))
+}
+
+/// The marks of an input's pixels by `paint`, and whether `plain` gives the same pixels.
+pub fn agreed(
+    alloc: Global,
+    input: LayerInput,
+    across: u16,
+    upwards: u16,
+) -> Result<(String, bool), Fail> {
+    let piece = piece(alloc, input, across, upwards)?;
+    let (same, _) = agreement(alloc, &piece)?;
+    let painted = paint(alloc, &piece, &mut Never)?;
+    let all = usize::from(across) * usize::from(upwards);
+    Ok((marks(alloc, painted.image())?, same == all))
 }
 
 #[test]

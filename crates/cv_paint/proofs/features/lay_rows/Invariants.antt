@@ -9,6 +9,6 @@ use Rattle.cv_paint.proofs.features.lay_rows.Given as goal
 abbrev pub invariant-loop-row : goal.invariant-loop-row
 invariant-loop-row g l =
     (g.C.Canvas.frame l.canvas ≡ g.C.Canvas.frame l.fn.canvas)
-    × Lays l.view (λ p. flat_map (feature_strokes l.input.parts l.view p) (take l.row-index l.rows))
+    × Lays l.view (λ p. flat_map (feature_strokes l.symbols l.view p) (take l.row-index l.rows))
     (g.C.Canvas.at l.fn.canvas) (g.C.Canvas.at l.canvas)
     × (l.steps + features_cost l.view (drop l.row-index l.rows) ≤ l.fn.steps + features_cost l.view l.rows)

@@ -11,7 +11,7 @@ invariant-loop-at g l =
     (g.C.Canvas.frame l.canvas ≡ g.C.Canvas.frame l.fn.canvas)
     × (g.S.Stop.yeses l.fn.stop ≤ g.S.Stop.yeses l.stop)
     × (l.at ≤ length l.rows)
-    × Lays l.view (λ p. flat_map (feature_strokes l.input.parts l.view p) (take l.at l.rows))
+    × Lays l.view (λ p. flat_map (feature_strokes l.symbols l.view p) (take l.at l.rows))
     (g.C.Canvas.at l.fn.canvas) (g.C.Canvas.at l.canvas)
     × (l.steps + features_cost l.view (drop l.at l.rows) ≤ l.fn.steps + features_cost l.view l.rows)
 

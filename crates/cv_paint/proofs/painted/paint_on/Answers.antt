@@ -10,5 +10,5 @@ returns-clause-ok g c =
     c.in_ok-put_rows.ensures.ok
     ∙ ap (λ (ps : List Rgba). c.args.pixels.now ++ ps)
     (laid_pixels c.args.view.now c.args.mask.now _ _
-    (λ p. flat_map (feature_strokes c.args.input.now.parts c.args.view.now p) c.args.table.now.features)
+    (λ p. flat_map (feature_strokes c.args.symbols.now c.args.view.now p) c.args.table.now.features)
     c.requires.clear c.in_ok-lay_table.ensures.laid)

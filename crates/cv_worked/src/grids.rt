@@ -1,0 +1,127 @@
+//! Grids: the cells at the centres of pixels, as wide as a pixel, wider and narrower.
+
+use crate::layers::grid;
+use crate::random::{agreed, next};
+use cv_layer::LayerInput;
+use cv_model::{NoMemory, Ramp, RampKind, Rgba, Stop, StopList};
+use std::alloc::Global;
+use std::test::Fail;
+
+/// An opaque colour.
+fn opaque(r: u8, g: u8, b: u8) -> Rgba {
+    Rgba { r, g, b, a: 255 }
+}
+
+/// Red for 1, green for 2, blue for 3 and grey for 4.
+fn letters(alloc: Global) -> Result<Ramp, NoMemory> {
+    let mut stops = StopList::new(alloc);
+    stops.put(Stop {
+        value: 1_000_000,
+        colour: opaque(255, 0, 0),
+    })?;
+    stops.put(Stop {
+        value: 2_000_000,
+        colour: opaque(0, 255, 0),
+    })?;
+    stops.put(Stop {
+        value: 3_000_000,
+        colour: opaque(0, 0, 255),
+    })?;
+    stops.put(Stop {
+        value: 4_000_000,
+        colour: opaque(200, 200, 200),
+    })?;
+    Ok(Ramp::of(RampKind::Exact, stops))
+}
+
+/// The marks of the grid in a text, and whether both painters agree.
+fn drawn(alloc: Global, text: &str, across: u16, upwards: u16) -> Result<(String, bool), Fail> {
+    let own = grid(alloc, 1, text, letters(alloc)?)?;
+    agreed(alloc, LayerInput::of(own, None, None), across, upwards)
+}
+
+#[test]
+fn a_cell_of_several_pixels_colours_them_all(rt: HostRuntime) -> Result<(), Fail> {
+    let text = "ncols 2 nrows 2 xllcorner 0 yllcorner 0 cellsize 2 1 2 3 4";
+    let (marks, same) = drawn(rt.alloc(), text, 4, 4)?;
+    assert_eq!(rt; (marks.as_str(), same), ("rrggrrggbbccbbcc", true));
+    Ok(())
+}
+
+#[test]
+fn around_a_grid_all_is_clear(rt: HostRuntime) -> Result<(), Fail> {
+    let alloc = rt.alloc();
+    let within = "ncols 2 nrows 2 xllcorner 1 yllcorner 1 cellsize 1 1 2 3 4";
+    let (marks, same) = drawn(alloc, within, 4, 4)?;
+    assert_eq!(rt; (marks.as_str(), same), (".....rg..bc.....", true));
+    let beyond = "ncols 1 nrows 1 xllcorner 4 yllcorner 0 cellsize 4 1";
+    let (marks, same) = drawn(alloc, beyond, 4, 1)?;
+    assert_eq!(rt; (marks.as_str(), same), ("....", true));
+    Ok(())
+}
+
+#[test]
+fn a_centre_on_a_border_lies_in_the_cell_east_and_north(rt: HostRuntime) -> Result<(), Fail> {
+    let text = "ncols 2 nrows 2 xllcorner 0.5 yllcorner 0.5 cellsize 1 1 2 3 4";
+    let (marks, same) = drawn(rt.alloc(), text, 3, 3)?;
+    assert_eq!(rt; (marks.as_str(), same), ("...rg.bc.", true));
+    Ok(())
+}
+
+#[test]
+fn of_narrow_cells_those_at_the_centres_count(rt: HostRuntime) -> Result<(), Fail> {
+    let text =
+        "ncols 4 nrows 4 xllcorner 0 yllcorner 0 cellsize 0.5 1 1 1 1 1 1 1 1 1 2 1 3 1 1 1 1";
+    let (marks, same) = drawn(rt.alloc(), text, 2, 2)?;
+    assert_eq!(rt; (marks.as_str(), same), ("rrgb", true));
+    Ok(())
+}
+
+#[test]
+fn a_cell_without_data_is_clear(rt: HostRuntime) -> Result<(), Fail> {
+    let text = "ncols 3 nrows 1 xllcorner -2 yllcorner -1 cellsize 2 1 -9999 4";
+    let (marks, same) = drawn(rt.alloc(), text, 4, 1)?;
+    assert_eq!(rt; (marks.as_str(), same), ("..cc", true));
+    Ok(())
+}
+
+/// Puts a header with a random corner and a random size of cells behind a text.
+fn push_header(text: &mut String, seed: &mut u32) -> Result<(), NoMemory> {
+    text.push_str("ncols 5 nrows 4 xllcorner ")?;
+    text.push_str(if next(seed) < 128 { "-" } else { "" })?;
+    text.push(char::from(b'0' + next(seed) % 4))?;
+    text.push_str(if next(seed) < 128 { ".5" } else { ".3" })?;
+    text.push_str(" yllcorner ")?;
+    text.push_str(if next(seed) < 128 { "-" } else { "" })?;
+    text.push(char::from(b'0' + next(seed) % 4))?;
+    text.push_str(" cellsize ")?;
+    text.push_str(match next(seed) % 4 {
+        0 => "0.3",
+        1 => "0.75",
+        2 => "1",
+        _ => "2.6",
+    })
+}
+
+/// The text of a random grid.
+fn random_text(alloc: Global, seed: &mut u32) -> Result<String, NoMemory> {
+    let mut text = String::new(alloc);
+    push_header(&mut text, seed)?;
+    for _ in 0..20 {
+        text.push(' ')?;
+        text.push(char::from(b'0' + next(seed) % 5))?;
+    }
+    Ok(text)
+}
+
+#[test]
+fn random_grids_are_painted_as_by_centres(rt: HostRuntime) -> Result<(), Fail> {
+    let alloc = rt.alloc();
+    let mut seed = 24;
+    for _ in 0..40 {
+        let text = random_text(alloc, &mut seed)?;
+        let (_, same) = drawn(alloc, text.as_str(), 9, 7)?;
+        assert!(rt; same);
+    }
+    Ok(())
+}
