@@ -1,7 +1,7 @@
 //! A desk as its callers use it: what the tests share, and these tests.
 //!
-//! Contract: what a caller holds stays its own to deliver or to finish, whatever others do meanwhile; no other
-//! code stands on this crate. Definitions: `Owed`. Takes memory for what it paints. No handles.
+//! Contract: what a caller holds stays its own to deliver or to finish, whatever others do meanwhile; no
+//! other code stands on this crate. Definitions: `Owed`. Takes memory for what it paints. No handles.
 #![tactic(auto)]
 
 #[cfg(test)]

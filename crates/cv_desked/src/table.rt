@@ -174,7 +174,7 @@ impl Table {
         }
     }
 
-    /// Lets caller 0 claim a task, in the place of what it holds, which is lost. Answers whether there was one.
+    /// Lets caller 0 claim a task, in the place of what it holds. Answers whether there was one.
     pub fn take(&mut self) -> Result<bool, ClaimError> {
         let found = claim(&mut self.desk, 0)?;
         self.held = found.0;
