@@ -1,0 +1,2 @@
+-- Lemmas on what callers hold.
+pub mod OwedLemmas

@@ -1,0 +1,2 @@
+-- What callers hold.
+pub mod Owed
