@@ -8,4 +8,7 @@ pub mod WorkedPlays
 pub mod WriteLemmas
 pub mod HeldLemmas
 pub mod CoverLemmas
+pub mod SeatLemmas
+pub mod MoveLemmas
+pub mod ObeyLemmas
 pub mod WorkedOthers

@@ -574,7 +574,7 @@ files_command a b c d n rest es s t e w cs h step =
     ∙ ap (λ (ns : List (List ℕ)). a.written ++ files_of ns (cons_option (picture_by t d) (pictures_written t es))) (sym (names_more c.refused n a.commands rest (name_written c.refused n) e refl))
 
 -- a file's name, picture and bytes
-no_file_written : (s : State) (d : Act) (c : Command) → file_of c ≡ None → written_by s d c ≡ []
+pub no_file_written : (s : State) (d : Act) (c : Command) → file_of c ≡ None → written_by s d c ≡ []
 no_file_written s d c h = ap (λ (o : Option (List ℕ)). option_to_list (option_and_then (λ name. option_map (file_with name) (picture_by s d)) o)) h
 
 file_written : (s : State) (d : Act) (c : Command) (name : List ℕ) (p : Raster Rgb) → file_of c ≡ Some name → picture_by s d ≡ Some p

@@ -6,3 +6,4 @@ pub mod Follows
 pub mod Entered
 pub mod Laws
 pub mod HeldLaws
+pub mod Seats

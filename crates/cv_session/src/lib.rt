@@ -6,3 +6,5 @@
 #![tactic(auto)]
 
 pub mod laws;
+mod commands;
+mod seat;

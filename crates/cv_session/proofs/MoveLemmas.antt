@@ -1,0 +1,88 @@
+-- How a session comes from seat to seat: plays of commands.
+use Rattle.std.proofs.Common.{◌≡◌, refl, ap, sym, ◌∙◌, subst, ℕ, suc, ◌+◌, List, [], ◌∷◌, ◌++◌, map, length, append_assoc, Option, Some, None, arith}
+use Rattle.std.proofs.lemmas.List.{append-nil, length-append, map-append}
+use Rattle.cv_event.specs.declared.entry.Act.{Act}
+use Rattle.cv_event.specs.declared.entry.Act.TheVariants as act
+use Rattle.cv_event.specs.declared.entry.Entry.{Entry}
+use Rattle.cv_event.specs.declared.refused.Reason.{Reason}
+use Rattle.cv_event.specs.declared.refused.Refused.{Refused}
+use Rattle.cv_event.specs.declared.slot.Task.{Task}
+use Rattle.cv_event.specs.States.{State, did}
+use Rattle.cv_desk.specs.Desks.{History, state, Notes, Stays}
+use Rattle.cv_script.specs.declared.script.Command.{Command}
+use Rattle.cv_script.specs.declared.script.Numbered.{Numbered}
+use Rattle.cv_session.specs.Responses.{Does, Refuses as Denies, response, held_by}
+use Rattle.cv_session.specs.Plays.{Mode, Begins, Written, Play, due_in, refusing, begun, silent, planned, act_of, entered, refusals, written_by, through, next, entry_by, Plays, stops, quiet, own, failed}
+use Rattle.cv_session.specs.Seats.{Seat, now, task_of, tasks_of, Enters, Stands, Refuses, play_of, Moves, Obeys}
+use Rattle.cv_session.proofs.PlayLemmas.{joined}
+
+-- a command of a line, and those behind it
+abbrev pub behind : ℕ → Command → List Numbered → List Numbered
+behind line c rest = record { line = line; command = c } ∷ rest
+
+-- how many entries there are behind one more
+pub longer : (old new : Seat) (a : Act) → Notes old.history new.history 0 a → suc (length old.history.journal) ≡ length new.history.journal
+longer old new a notes =
+    let l : length (old.history.journal ++ entry_by 0 a ∷ []) ≡ length old.history.journal + 1 = length-append old.history.journal (entry_by 0 a ∷ []) in
+    let m = ap length notes.journal in
+    omega (arith, l, m)
+
+-- what an entry of a command leaves
+pub record Leaves (old new : Seat) (line : ℕ) (c : Command) (a : Act) (files : List Written) : Type 0 where
+  pub notes : Notes old.history new.history 0 a
+  pub held : tasks_of new ≡ tasks_of old ++ held_by a
+  pub refused : new.refused ≡ old.refused ++ refusals line (suc (length old.history.journal)) a
+  pub writes : written_by (did (now old) 0 a) a c ≡ files
+
+-- the play behind it is that of the new seat
+arrives : (old new : Seat) (line : ℕ) (c : Command) (a : Act) (files before : List Written) (rest : List Numbered) → Leaves old new line c a files
+    → next a (play_of Begins (behind line c rest) before old) ≡ play_of Begins rest (before ++ files) new
+arrives old new line c a files before rest l =
+    let read = longer old new a l.notes in
+    λ i. record {
+      read = read i;
+      state = sym l.notes.becomes i;
+      known = sym l.notes.becomes i;
+      due = due_in (sym l.notes.becomes i);
+      held = sym l.held i;
+      mode = Begins;
+      commands = rest;
+      refused = sym l.refused i;
+      written = before ++ l.writes i;
+    }
+
+-- a command that is done by one entry
+pub does : (old new : Seat) (line : ℕ) (c : Command) (a : Act) (files : List Written) → response (now old) (length (tasks_of old)) c ≡ Does a
+    → Leaves old new line c a files → Obeys old new line c files
+does old new line c a files r l rest = record {
+  entries = entry_by 0 a ∷ [];
+  opening = l.notes.opening;
+  journal = l.notes.journal;
+  plays = λ before. own (play_of Begins (behind line c rest) before old) _ a [] (ap act_of r)
+      (subst (λ (p : Play). Plays 0 p [] (play_of Begins rest (before ++ files) new)) (sym (arrives old new line c a files before rest l)) (stops (play_of Begins rest (before ++ files) new)));
+}
+
+-- a command that is refused
+pub denies : (old new : Seat) (line : ℕ) (c : Command) (why : Reason) → response (now old) (length (tasks_of old)) c ≡ Denies why
+    → Refuses old new line why → Obeys old new line c []
+denies old new line c why r f rest = record {
+  entries = [];
+  opening = ap (λ (h : History). h.opening) f.history;
+  journal = ap (λ (h : History). h.journal) f.history ∙ sym (append-nil old.history.journal);
+  plays = λ before. quiet (play_of Begins (behind line c rest) before old) (refusing line why (record (play_of Begins (behind line c rest) before old) { commands = rest })) _ []
+      (ap (λ x. begun line rest x (play_of Begins (behind line c rest) before old)) r)
+      (subst (λ (p : Play). Plays 0 p [] (play_of Begins rest (before ++ []) new)) (sym (refused_play before)) (stops (play_of Begins rest (before ++ []) new)));
+}
+  where
+    refused_play : (before : List Written) → refusing line why (record (play_of Begins (behind line c rest) before old) { commands = rest }) ≡ play_of Begins rest (before ++ []) new
+    refused_play before = λ i. record {
+      read = length (sym f.history i).journal;
+      state = state (sym f.history i);
+      known = state (sym f.history i);
+      due = due_in (state (sym f.history i));
+      held = map task_of (sym f.held i);
+      mode = Begins;
+      commands = rest;
+      refused = sym f.refused i;
+      written = sym (append-nil before) i;
+    }
