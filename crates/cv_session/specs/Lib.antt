@@ -7,3 +7,6 @@ pub mod Entered
 pub mod Laws
 pub mod HeldLaws
 pub mod Seats
+pub mod Files
+pub mod Outputs
+pub mod Reports

@@ -5,6 +5,10 @@
 //! is needed.
 #![tactic(auto)]
 
-pub mod laws;
 mod commands;
+pub mod laws;
+mod outputs;
+mod report;
 mod seat;
+
+pub use report::{Report, SessionError};
