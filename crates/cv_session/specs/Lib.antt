@@ -6,4 +6,5 @@ pub mod Follows
 pub mod Entered
 pub mod Laws
 pub mod HeldLaws
+pub mod Covered
 pub mod Seats
