@@ -105,7 +105,7 @@ go_on m m2 m3 cs cs2 cs3 a b c files more first second = record {
   entries = first.entries ++ second.entries;
   opening = second.opening ∙ first.opening;
   journal = second.journal ∙ ap (λ (es : List Entry). es ++ second.entries) first.journal ∙ append_assoc a.history.journal first.entries second.entries;
-  plays = λ before. joined (first.plays before)
+  plays = λ before. joined second.entries (play_of m3 cs3 (before ++ files ++ more) c) (first.plays before)
       (subst (λ (w : List Written). Plays 0 (play_of m2 cs2 (before ++ files) b) second.entries (play_of m3 cs3 w c)) (append_assoc before files more) (second.plays (before ++ files)));
 }
 
