@@ -1,5 +1,5 @@
 -- How a session comes from seat to seat: plays of commands.
-use Rattle.std.proofs.Common.{◌≡◌, refl, ap, sym, ◌∙◌, subst, ℕ, suc, ◌+◌, List, [], ◌∷◌, ◌++◌, map, length, append_assoc, Option, Some, None, arith}
+use Rattle.std.proofs.Common.{◌≡◌, refl, ap, sym, ◌∙◌, subst, ℕ, suc, ◌+◌, true, List, [], ◌∷◌, ◌++◌, map, length, append_assoc, Option, Some, None, arith}
 use Rattle.std.proofs.lemmas.List.{append-nil, length-append, map-append}
 use Rattle.cv_event.specs.declared.entry.Act.{Act}
 use Rattle.cv_event.specs.declared.entry.Act.TheVariants as act
@@ -12,7 +12,7 @@ use Rattle.cv_desk.specs.Desks.{History, state, Notes, Stays}
 use Rattle.cv_script.specs.declared.script.Command.{Command}
 use Rattle.cv_script.specs.declared.script.Numbered.{Numbered}
 use Rattle.cv_session.specs.Responses.{Does, Refuses as Denies, response, held_by}
-use Rattle.cv_session.specs.Plays.{Mode, Begins, Written, Play, due_in, refusing, begun, silent, planned, act_of, entered, refusals, written_by, through, next, entry_by, Plays, stops, quiet, own, failed}
+use Rattle.cv_session.specs.Plays.{Mode, Begins, Written, Play, due_in, refusing, begun, silent, planned, fails, act_of, entered, refusals, written_by, through, next, entry_by, Plays, stops, quiet, own, failed}
 use Rattle.cv_session.specs.Seats.{Seat, now, task_of, tasks_of, Enters, Stands, Refuses, play_of, Moves, Obeys}
 use Rattle.cv_session.proofs.PlayLemmas.{joined}
 
@@ -85,4 +85,78 @@ denies old new line c why r f rest = record {
       commands = rest;
       refused = sym f.refused i;
       written = sym (append-nil before) i;
+    }
+
+-- ---- any steps
+
+-- no step
+pub stay_put : (m : Mode) (cs : List Numbered) (old : Seat) → Moves m cs old m cs old []
+stay_put m cs old = record {
+  entries = [];
+  opening = refl;
+  journal = sym (append-nil old.history.journal);
+  plays = λ before. subst (λ (w : List Written). Plays 0 (play_of m cs before old) [] (play_of m cs w old)) (sym (append-nil before)) (stops (play_of m cs before old));
+}
+
+-- one after the other
+pub go_on : (m m2 m3 : Mode) (cs cs2 cs3 : List Numbered) (a b c : Seat) (files more : List Written) → Moves m cs a m2 cs2 b files
+    → Moves m2 cs2 b m3 cs3 c more → Moves m cs a m3 cs3 c (files ++ more)
+go_on m m2 m3 cs cs2 cs3 a b c files more first second = record {
+  entries = first.entries ++ second.entries;
+  opening = second.opening ∙ first.opening;
+  journal = second.journal ∙ ap (λ (es : List Entry). es ++ second.entries) first.journal ∙ append_assoc a.history.journal first.entries second.entries;
+  plays = λ before. joined second.entries (play_of m3 cs3 (before ++ files ++ more) c) (first.plays before)
+      (subst (λ (w : List Written). Plays 0 (play_of m2 cs2 (before ++ files) b) second.entries (play_of m3 cs3 w c)) (append_assoc before files more) (second.plays (before ++ files)));
+}
+
+-- a silent step
+pub by_quiet : (m m2 : Mode) (cs cs2 : List Numbered) (old new : Seat) → new.history ≡ old.history
+    → ((before : List Written) → silent (play_of m cs before old) ≡ Some (play_of m2 cs2 before new)) → Moves m cs old m2 cs2 new []
+by_quiet m m2 cs cs2 old new same step = record {
+  entries = [];
+  opening = ap (λ (h : History). h.opening) same;
+  journal = ap (λ (h : History). h.journal) same ∙ sym (append-nil old.history.journal);
+  plays = λ before. quiet (play_of m cs before old) (play_of m2 cs2 before new) _ [] (step before)
+      (subst (λ (w : List Written). Plays 0 (play_of m2 cs2 before new) [] (play_of m2 cs2 w new)) (sym (append-nil before)) (stops (play_of m2 cs2 before new)));
+}
+
+-- an entry as it is planned
+pub by_own : (m m2 : Mode) (cs cs2 : List Numbered) (old new : Seat) (a : Act) (files : List Written) → Notes old.history new.history 0 a
+    → ((before : List Written) → planned (play_of m cs before old) ≡ Some a)
+    → ((before : List Written) → next a (play_of m cs before old) ≡ play_of m2 cs2 (before ++ files) new) → Moves m cs old m2 cs2 new files
+by_own m m2 cs cs2 old new a files notes plan to = record {
+  entries = entry_by 0 a ∷ [];
+  opening = notes.opening;
+  journal = notes.journal;
+  plays = λ before. own (play_of m cs before old) _ a [] (plan before)
+      (subst (λ (p : Play). Plays 0 p [] (play_of m2 cs2 (before ++ files) new)) (sym (to before)) (stops (play_of m2 cs2 (before ++ files) new)));
+}
+
+-- a job that fails in the place of an entry
+pub by_failed : (m m2 : Mode) (cs cs2 : List Numbered) (old new : Seat) (j : ℕ) (files : List Written) → Notes old.history new.history 0 (act.Fail j)
+    → ((before : List Written) → fails (play_of m cs before old) j ≡ true)
+    → ((before : List Written) → next (act.Fail j) (play_of m cs before old) ≡ play_of m2 cs2 (before ++ files) new) → Moves m cs old m2 cs2 new files
+by_failed m m2 cs cs2 old new j files notes may to = record {
+  entries = entry_by 0 (act.Fail j) ∷ [];
+  opening = notes.opening;
+  journal = notes.journal;
+  plays = λ before. failed (play_of m cs before old) _ j [] (may before)
+      (subst (λ (p : Play). Plays 0 p [] (play_of m2 cs2 (before ++ files) new)) (sym (to before)) (stops (play_of m2 cs2 (before ++ files) new)));
+}
+
+-- the play of a seat behind an entry that leaves these tasks held and this refused
+pub plays_of : (m : Mode) (cs : List Numbered) (old new : Seat) (a : Act) (w : List Written) → Notes old.history new.history 0 a → (held : List Task) → tasks_of new ≡ held
+    → new.refused ≡ old.refused → (record (entered a (play_of m cs w old)) { held = held }) ≡ play_of m cs w new
+plays_of m cs old new a w notes held e refused =
+    let read = longer old new a notes in
+    λ i. record {
+      read = read i;
+      state = sym notes.becomes i;
+      known = sym notes.becomes i;
+      due = due_in (sym notes.becomes i);
+      held = sym e i;
+      mode = m;
+      commands = cs;
+      refused = sym refused i;
+      written = w;
     }

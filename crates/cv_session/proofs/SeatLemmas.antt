@@ -9,7 +9,8 @@ use Rattle.std.proofs.lemmas.Bool.Decides.{nat_tests}
 use Rattle.cv_model.specs.declared.edit.Edit.{Edit}
 use Rattle.cv_model.specs.declared.edit.EditError.{EditError}
 use Rattle.cv_model.specs.Paintings.{Composition}
-use Rattle.cv_model.specs.Views.{PixelGrid}
+use Rattle.cv_model.specs.Views.{PixelGrid, IsView}
+use Rattle.cv_model.specs.declared.project.CanvasSpec.{CanvasSpec}
 use Rattle.cv_event.specs.declared.entry.Act.{Act}
 use Rattle.cv_event.specs.declared.entry.Act.TheVariants as act
 use Rattle.cv_event.specs.declared.entry.How.{How}
@@ -19,16 +20,22 @@ use Rattle.cv_event.specs.States.{Job, Canvas, State, change_at, change_job, job
 use Rattle.cv_event.specs.Legality.{Allows}
 use Rattle.cv_event.proofs.JobLemmas.{zero_suc, suc_zero, suc_suc}
 use Rattle.cv_event.proofs.EndLemmas.{stays_where, edited_stays, or_more}
-use Rattle.cv_event.proofs.ShownLemmas.{presence, presence_seen, settled_one}
+use Rattle.cv_event.specs.Histories.{view_given}
+use Rattle.cv_event.proofs.TakenLemmas.{view_one}
+use Rattle.cv_event.proofs.ShownLemmas.{presence, presence_seen, IsSeen, settled_one}
 use Rattle.cv_tables.specs.Rows.{Row, row_in, whole_of}
+use Rattle.cv_tables.specs.Tabs.{Tables, state_of}
 use Rattle.cv_desk.specs.Desks.{History, state, KeepJobs, Notes, Stays, basis_of}
-use Rattle.cv_desk.proofs.BasisLemmas.{basis_stays, piece_stays, whole_stays}
+use Rattle.cv_desk.proofs.BasisLemmas.{jobs_same, basis_stays, piece_stays, whole_stays}
 use Rattle.cv_session.specs.declared.seat.HeldTask.{HeldTask}
 use Rattle.cv_session.specs.declared.seat.HeldTask.TheVariants as held
 use Rattle.cv_session.specs.Responses.{last_from, last_job, held_by}
 use Rattle.cv_session.specs.HeldLaws.{HoldsTasks}
-use Rattle.cv_session.specs.Seats.{Seat, now, task_of, tasks_of, IsHeldOf, IsSeat}
+use Rattle.cv_session.specs.Covered.{Covers}
+use Rattle.cv_session.specs.Seats.{Seat, now, task_of, tasks_of, IsHeldOf, canvas_spec, IsOfSize, IsSeat}
+use Rattle.cv_session.proofs.PlayLemmas.{same_some}
 use Rattle.cv_session.proofs.HeldLemmas.{is_delivery, held_more}
+use Rattle.cv_session.proofs.CoverLemmas.{covers_more}
 
 -- ---- pieces
 
@@ -179,23 +186,113 @@ lasts_started s c j lasts allowed f = by_view (view_on s c) refl allowed.0
         ∙ sym (there_same s 0 k (act.Start c j) (if c == k then Some j else last_job s k))
         ∙ ap (λ (o : Option ℕ). option_map (λ (n : Canvas). o) (slice_get (did s 0 (act.Start c j)).canvases k)) (sym (ap (λ (v : Option PixelGrid). last_job (started c v s) k) e ∙ placed k view))
 
+-- ---- sizes of views
+
+-- a canvas's view is of its size
+abbrev pub AreSized : State → Type 0
+AreSized s = (c : ℕ) (view : PixelGrid) → view_on s c ≡ Some view → IsOfSize s c view
+
+abbrev pub spec_of : Canvas → Option CanvasSpec
+spec_of k = Some k.spec
+
+spec_seen : IsSeen spec_of
+spec_seen = record { viewed = λ view k. refl; cache = λ cache k. refl }
+
+size_stays : (s : State) (who c : ℕ) (a : Act) (view : PixelGrid) → IsOfSize s c view → IsOfSize (did s who a) c view
+size_stays s who c a view h = by (slice_get s.canvases c) (slice_get (did s who a).canvases c) (settled_one spec_of spec_seen (λ j job k. refl) s who c a) h
+  where
+    by : (o p : Option Canvas) → option_and_then spec_of p ≡ option_and_then spec_of o → IsSomeAnd o (λ (k : Canvas). (view.w ≡ k.spec.w) × (view.h ≡ k.spec.h))
+        → IsSomeAnd p (λ (k : Canvas). (view.w ≡ k.spec.w) × (view.h ≡ k.spec.h))
+    by None p e h = absurd h
+    by (Some k) None e h = absurd cc
+    by (Some k) (Some n) e h =
+        let same : k.spec ≡ n.spec = cc in
+        (h.0 ∙ ap (λ (x : CanvasSpec). x.w) same, h.1 ∙ ap (λ (x : CanvasSpec). x.h) same)
+
+size_given : (s : State) (who c : ℕ) (a : Act) (view : PixelGrid) → view_given c a ≡ Some view → Allows s who a → IsOfSize s c view
+size_given s who c (act.View k v) view g allowed = by (k == c) refl g
+  where
+    sizes : (o : Option Canvas) → IsSomeAnd o (λ (k : Canvas). IsView v × (v.w ≡ k.spec.w) × (v.h ≡ k.spec.h)) → IsSomeAnd o (λ (k : Canvas). (v.w ≡ k.spec.w) × (v.h ≡ k.spec.h))
+    sizes None h = absurd h
+    sizes (Some k) h = h.1
+    by : (b : Bool) → (k == c) ≡ b → (if b then Some v else None) ≡ Some view → IsOfSize s c view
+    by false e g = absurd cc
+    by true e g = subst (IsOfSize s c) (same_some g) (subst (λ (n : ℕ). IsOfSize s n v) (eqb-true k c e) (sizes (slice_get s.canvases k) allowed))
+size_given s who c (act.Edit e v) view g allowed = absurd cc
+size_given s who c (act.Start k j) view g allowed = absurd cc
+size_given s who c (act.Look j at hit) view g allowed = absurd cc
+size_given s who c (act.Deliver j at fate) view g allowed = absurd cc
+size_given s who c (act.Compose j) view g allowed = absurd cc
+size_given s who c (act.Finish j) view g allowed = absurd cc
+size_given s who c (act.Fail j) view g allowed = absurd cc
+size_given s who c (act.Cancel j) view g allowed = absurd cc
+size_given s who c (act.Preview j bits) view g allowed = absurd cc
+size_given s who c (act.Save k j) view g allowed = absurd cc
+
+pub sized_kept : (s : State) (who : ℕ) (a : Act) → Allows s who a → AreSized s → AreSized (did s who a)
+sized_kept s who a allowed f = λ c view e. by c view (view_given c a) refl (sym (view_one s who a c allowed) ∙ e)
+  where
+    by : (c : ℕ) (view : PixelGrid) (o : Option PixelGrid) → view_given c a ≡ o → option_or o (view_on s c) ≡ Some view → IsOfSize (did s who a) c view
+    by c view None g h = size_stays s who c a view (f c view h)
+    by c view (Some v) g h = size_stays s who c a view (size_given s who c a view (g ∙ h) allowed)
+
+-- the sizes of canvases
+abbrev pub AreSpecs : State → List CanvasSpec → Type 0
+AreSpecs s specs = (c : ℕ) → slice_get specs c ≡ option_map canvas_spec (slice_get s.canvases c)
+
+spec_there : (o : Option Canvas) → option_map canvas_spec o ≡ option_and_then spec_of o
+spec_there None = refl
+spec_there (Some k) = refl
+
+pub specs_kept : (s : State) (who : ℕ) (a : Act) (specs : List CanvasSpec) → AreSpecs s specs → AreSpecs (did s who a) specs
+specs_kept s who a specs f = λ c.
+    f c ∙ spec_there (slice_get s.canvases c) ∙ sym (settled_one spec_of spec_seen (λ j job k. refl) s who c a)
+    ∙ sym (spec_there (slice_get (did s who a).canvases c))
+
 -- ---- seats
 
 -- behind an entry that does no task, with what it makes held
 pub seat_enters : (old new : Seat) (a : Act) (more : List HeldTask) → IsSeat old → Notes old.history new.history 0 a → is_delivery a ≡ false
-    → new.held ≡ old.held ++ more → map task_of more ≡ held_by a → AllByRecursion (IsHeldOf new.history) more → AreLast (now new) new.lasts → IsSeat new
-seat_enters old new a more seat notes n e same pieces lasts =
+    → new.held ≡ old.held ++ more → map task_of more ≡ held_by a → AllByRecursion (IsHeldOf new.history) more → new.specs ≡ old.specs → AreLast (now new) new.lasts → IsSeat new
+seat_enters old new a more seat notes n e same pieces specs lasts =
     let tasks : tasks_of new ≡ tasks_of old ++ held_by a = ap (map task_of) e ∙ map-append task_of old.held more ∙ ap (λ (ts : List Task). tasks_of old ++ ts) same in
     record {
       holds = subst (λ (s : State). HoldsTasks s (tasks_of new)) (sym notes.becomes)
           (subst (HoldsTasks (did (now old) 0 a)) (sym tasks) (held_more (now old) a (tasks_of old) notes.allowed n seat.holds));
+      covers = subst (λ (s : State). Covers s (tasks_of new)) (sym notes.becomes)
+          (subst (Covers (did (now old) 0 a)) (sym tasks) (covers_more (now old) a (tasks_of old) notes.allowed n seat.covers));
       pieces = subst (AllByRecursion (IsHeldOf new.history)) (sym e)
           (all_both new.history old.held more (all_stay old.history new.history old.held notes.jobs seat.pieces) pieces);
+      specs = subst (λ (s : State). AreSpecs s new.specs) (sym notes.becomes)
+          (subst (AreSpecs (did (now old) 0 a)) (sym specs) (specs_kept (now old) 0 a old.specs seat.specs));
       lasts = lasts;
+      sized = subst AreSized (sym notes.becomes) (sized_kept (now old) 0 a notes.allowed seat.sized);
     }
 
 -- which makes nothing held
 pub seat_goes : (old new : Seat) (a : Act) → IsSeat old → Notes old.history new.history 0 a → is_delivery a ≡ false → held_by a ≡ []
-    → new.held ≡ old.held → AreLast (now new) new.lasts → IsSeat new
-seat_goes old new a seat notes n none e lasts =
-    seat_enters old new a [] seat notes n (e ∙ sym (append-nil old.held)) (sym none) tt lasts
+    → new.held ≡ old.held → new.specs ≡ old.specs → AreLast (now new) new.lasts → IsSeat new
+seat_goes old new a seat notes n none e specs lasts =
+    seat_enters old new a [] seat notes n (e ∙ sym (append-nil old.held)) (sym none) tt specs lasts
+
+-- which is no start either
+pub seat_goes_on : (old new : Seat) (a : Act) → IsSeat old → Notes old.history new.history 0 a → is_delivery a ≡ false → held_by a ≡ [] → is_start a ≡ false
+    → new.held ≡ old.held → new.specs ≡ old.specs → new.lasts ≡ old.lasts → IsSeat new
+seat_goes_on old new a seat notes n none start e specs lasts =
+    seat_goes old new a seat notes n none e specs
+    (subst (λ (s : State). AreLast s new.lasts) (sym notes.becomes)
+    (subst (AreLast (did (now old) 0 a)) (sym lasts) (lasts_kept (now old) 0 a old.lasts start seat.lasts)))
+
+-- where nothing was entered
+pub seat_stands : (old new : Seat) → IsSeat old → Stays old.history new.history → new.held ≡ old.held → new.specs ≡ old.specs → new.lasts ≡ old.lasts → IsSeat new
+seat_stands old new seat stays e specs lasts =
+    let same : now new ≡ now old = ap state_of stays.tables in
+    record {
+      holds = subst (λ (s : State). HoldsTasks s (tasks_of new)) (sym same) (subst (HoldsTasks (now old)) (ap (map task_of) (sym e)) seat.holds);
+      covers = subst (λ (s : State). Covers s (tasks_of new)) (sym same) (subst (Covers (now old)) (ap (map task_of) (sym e)) seat.covers);
+      pieces = subst (AllByRecursion (IsHeldOf new.history)) (sym e)
+          (all_stay old.history new.history old.held (subst (λ (t : Tables). KeepJobs old.history.tables.rows t.rows) (sym stays.tables) (jobs_same old.history.tables.rows)) seat.pieces);
+      specs = subst (λ (s : State). AreSpecs s new.specs) (sym same) (subst (AreSpecs (now old)) (sym specs) seat.specs);
+      lasts = subst (λ (s : State). AreLast s new.lasts) (sym same) (subst (AreLast (now old)) (sym lasts) seat.lasts);
+      sized = subst AreSized (sym same) seat.sized;
+    }

@@ -6,6 +6,7 @@ pub mod Follows
 pub mod Entered
 pub mod Laws
 pub mod HeldLaws
+pub mod Covered
 pub mod Seats
 pub mod Files
 pub mod Outputs

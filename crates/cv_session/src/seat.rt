@@ -1,17 +1,19 @@
 //! What a session keeps beside its desk, and the calls of the desk by caller 0.
 
-ghost use Rattle.std.specs.Prelude.{◌≡◌, ◌<◌, length, slice_get, set, Some, option_map, IfOk, OnOk, OnErr};
+ghost use Rattle.std.specs.Prelude.{◌≡◌, ◌<◌, length, slice_get, set, Some, option_map, IfOk, IfSome, OnOk, OnErr};
+ghost use Rattle.cv_model.specs.Views.{PixelGrid};
 ghost use Rattle.cv_event.specs.declared.entry.Act.TheVariants as act;
+ghost use Rattle.cv_event.specs.States.{view_on};
 ghost use Rattle.cv_desk.specs.Answers.{StartAnswer, ViewAnswer, EndAnswer, EditAnswer};
-ghost use Rattle.cv_session.specs.Responses.{last_job};
-ghost use Rattle.cv_session.specs.Seats.{Seat, now, Enters, Stands, EditEnters, Refuses};
+ghost use Rattle.cv_session.specs.Responses.{Response, last_job, at_view};
+ghost use Rattle.cv_session.specs.Seats.{Seat, now, canvas_spec, IsOfSize, Enters, Stands, EditEnters, Refuses, asked_of};
 
 use cv_chunks::Shared;
 use cv_compose::ComposeInput;
 use cv_desk::{Desk, EndError, SetViewError, StartError};
 use cv_event::{Reason, Refused, RefusedList};
 use cv_layer::Piece;
-use cv_model::{Edit, EditError, NoMemory, View};
+use cv_model::{CanvasSpec, Edit, EditError, NoMemory, View};
 use std::alloc::Global;
 use std::marker::Model;
 
@@ -24,12 +26,14 @@ pub enum HeldTask {
     Compose(u32, ComposeInput),
 }
 
-/// A desk with what caller 0 holds, oldest first, each canvas's last job, and the commands refused so far.
+/// A desk with what caller 0 holds, oldest first, each canvas's size and last job, and the commands refused
+/// so far.
 #[derive(Drop)]
 pub(crate) struct Session {
     pub(crate) alloc: Global,
     pub(crate) desk: Desk,
     pub(crate) held: Vec<HeldTask>,
+    pub(crate) specs: Vec<CanvasSpec>,
     pub(crate) lasts: Vec<Option<u32>>,
     pub(crate) refused: RefusedList,
 }
@@ -42,6 +46,7 @@ impl Model for Session {
     ghost view = { λ s. record {
       history = s.desk;
       held = s.held.items;
+      specs = s.specs.items;
       lasts = s.lasts.items;
       refused = s.refused;
     } };
@@ -49,6 +54,7 @@ impl Model for Session {
     ghost invariant = { λ s. IsSeat (record {
       history = s.desk;
       held = s.held.items;
+      specs = s.specs.items;
       lasts = s.lasts.items;
       refused = s.refused;
     }) };
@@ -69,6 +75,33 @@ impl Session {
             (slice_get (now self.now).canvases canvas) }
     {
         self.lasts.get(canvas as usize).copied()
+    }
+
+    /// How a canvas was made, if it is there.
+    pub(crate) fn spec(&self, canvas: u32) -> Option<CanvasSpec>
+        ensures { result ≡ option_map canvas_spec (slice_get (now self.now).canvases canvas) }
+    {
+        self.specs.get(canvas as usize).copied()
+    }
+
+    /// A canvas's present view, which is of its size.
+    pub(crate) fn view(&self, canvas: u32) -> Option<View>
+        ensures seen { result ≡ view_on (now self.now) canvas }
+        ensures sized { IfSome result (IsOfSize (now self.now) canvas) }
+    {
+        self.desk.view(canvas)
+    }
+
+    /// A canvas's present view, or why a command that speaks of it is refused.
+    pub(crate) fn placed(&self, canvas: u32) -> Result<View, Reason>
+        ensures answer { (ask : PixelGrid → Response)
+            → at_view (now self.now) canvas ask ≡ asked_of result ask }
+        ensures sized { IfOk result (IsOfSize (now self.now) canvas) }
+    {
+        if self.spec(canvas).is_none() {
+            return Err(Reason::UnknownCanvas);
+        }
+        self.view(canvas).ok_or(Reason::NoView)
     }
 
     /// Cancels a job.
