@@ -31,7 +31,7 @@ use Rattle.cv_session.proofs.WriteLemmas.{no_file_written}
 use Rattle.cv_session.proofs.MoveLemmas.{Leaves, longer, does, denies}
 
 -- responses of what isn't there
-no_canvas : (s : State) (c : ℕ) (ask : Canvas → Response) → slice_get s.canvases c ≡ None → at_canvas s c ask ≡ Denies reason.UnknownCanvas
+pub no_canvas : (s : State) (c : ℕ) (ask : Canvas → Response) → slice_get s.canvases c ≡ None → at_canvas s c ask ≡ Denies reason.UnknownCanvas
 no_canvas s c ask h = ap (λ (o : Option Canvas). option_map_or ask o (Denies reason.UnknownCanvas)) h
 
 none_of : {A : Type 0} (o : Option A) → is_some o ≡ false → o ≡ None
@@ -126,7 +126,7 @@ no_view s c ask there h = by_canvas (slice_get s.canvases c) there h
     by_canvas None there h = absurd cc
     by_canvas (Some k) there h = ap (λ (o : Option PixelGrid). option_map_or ask o (Denies reason.NoView)) h
 
-no_job : (s : State) (c : ℕ) (ask : ℕ → Response) → IsSome (slice_get s.canvases c) → last_job s c ≡ None → at_job s c ask ≡ Denies reason.NoJob
+pub no_job : (s : State) (c : ℕ) (ask : ℕ → Response) → IsSome (slice_get s.canvases c) → last_job s c ≡ None → at_job s c ask ≡ Denies reason.NoJob
 no_job s c ask there h = by_canvas (slice_get s.canvases c) there
   where
     by_canvas : (o : Option Canvas) → is_some o ≡ true

@@ -1,14 +1,14 @@
 -- The commands that write pictures: what they leave of a session and of the tray.
-use Rattle.std.proofs.Common.{◌≡◌, ◌≢◌, refl, ap, sym, ◌∙◌, subst, ◌≤◌, ◌<◌, ℕ, zero, suc, ◌+◌, Bool, true, false, if◌then◌else◌, List, [], ◌∷◌, ◌++◌, map, length, take, drop, slice_get, Option, Some, None, is_some, option_map, option_and_then, arith, IsSome, IsSomeAnd, IfSome, IsTrue, Result, Ok, Err}
+use Rattle.std.proofs.Common.{◌≡◌, ◌≢◌, refl, ap, sym, ◌∙◌, subst, ◌≤◌, ◌<◌, ℕ, zero, suc, ◌+◌, Bool, true, false, if◌then◌else◌, List, [], ◌∷◌, ◌++◌, map, length, take, drop, slice_get, Option, Some, None, is_some, is_none, option_map, option_and_then, option_to_list, arith, IsSome, IsSomeAnd, IfSome, IsTrue, OnOk, OnErr, Result, Ok, Err}
 use Rattle.std.specs.List.{AllByRecursion}
 use Rattle.std.specs.Option.{option_or, option_map_or}
-use Rattle.std.proofs.lemmas.List.{append-nil, length-append}
+use Rattle.std.proofs.lemmas.List.{append-nil}
+use Rattle.std.proofs.lemmas.Option.{slice_get-map}
 use Rattle.cv_model.specs.declared.colour.Rgb.{Rgb}
 use Rattle.cv_model.specs.Paintings.{Composition, composed}
 use Rattle.cv_model.specs.Pictures.{picture, picture_with}
 use Rattle.cv_model.specs.Rasters.{Raster, ppm_of}
 use Rattle.cv_outside.specs.declared.ends.TrayEnd.TheVariants.{Kept}
-use Rattle.cv_outside.specs.Counts.{Rose}
 use Rattle.cv_outside.specs.Reads.{SameFiles}
 use Rattle.cv_outside.specs.Seen.{NamedFiles, TraySeen}
 use Rattle.cv_outside.specs.Writes.{OthersStay, Writes}
@@ -18,34 +18,41 @@ use Rattle.cv_event.specs.declared.entry.Entry.{Entry}
 use Rattle.cv_event.specs.declared.entry.How.{How}
 use Rattle.cv_event.specs.declared.refused.Reason.{Reason}
 use Rattle.cv_event.specs.declared.refused.Reason.TheVariants as reason
-use Rattle.cv_event.specs.declared.slot.Slot.{Slot}
-use Rattle.cv_event.specs.States.{Taken, Job, Canvas, State, job_in, taken_of, did, replay}
-use Rattle.cv_event.specs.Legality.{OfJob, how, ready, ready_from, ready_bits, Allows, IsLegal}
-use Rattle.cv_event.specs.Histories.{taken, image}
+use Rattle.cv_event.specs.declared.slot.Task.{Task}
+use Rattle.cv_event.specs.States.{Taken, Job, Canvas, State, job_in, taken_of, did}
+use Rattle.cv_event.specs.Legality.{OfJob, how, ready_from, ready_bits}
+use Rattle.cv_event.specs.Histories.{taken}
 use Rattle.cv_event.specs.Lines.{listed_slots}
-use Rattle.cv_event.specs.ShownLaws.{published_on, is_on, finished_by, last_finished}
+use Rattle.cv_event.specs.ShownLaws.{is_on, finished_by, last_finished}
 use Rattle.cv_event.specs.TextLaws.{FitsOpening}
 use Rattle.cv_event.proofs.FitLemmas.{jobs_have_few_slots}
 use Rattle.cv_event.proofs.ShownLemmas.{preview_lists_ready, published_is_last_finished}
 use Rattle.cv_event.proofs.DueLemmas.{canvases_stay}
 use Rattle.cv_tables.specs.Rows.{Row, row_in, job_of, compose_of, whole_of}
-use Rattle.cv_tables.specs.Tabs.{Tab, PublishedJob, taken_in, canvas_of}
+use Rattle.cv_tables.specs.Tabs.{Tab, PublishedJob, taken_in, canvas_of, state_of}
 use Rattle.cv_store.specs.Stores.{project_of}
-use Rattle.cv_desk.specs.Desks.{History, state, Notes, Stays}
-use Rattle.cv_desk.specs.Laws.{present, ShowsLast, ShowsCanvas, ShowsJob, IsKnown}
+use Rattle.cv_desk.specs.Desks.{History, state, Notes}
+use Rattle.cv_desk.specs.Answers.{PreviewAnswer, SaveAnswer, SaveNotes}
+use Rattle.cv_desk.specs.declared.errors.PreviewError.{PreviewError}
+use Rattle.cv_desk.specs.declared.errors.PreviewError.TheVariants as preview_error
+use Rattle.cv_desk.specs.declared.errors.SaveError.{SaveError}
+use Rattle.cv_desk.specs.declared.errors.SaveError.TheVariants as save_error
+use Rattle.cv_desk.specs.Laws.{present, ShowsLast, IsKnown}
 use Rattle.cv_script.specs.declared.script.Command.{Command}
 use Rattle.cv_script.specs.declared.script.Command.TheVariants as command
 use Rattle.cv_script.specs.declared.script.Numbered.{Numbered}
 use Rattle.cv_session.specs.declared.outputs.Stop.{Stop}
 use Rattle.cv_session.specs.declared.outputs.Stop.TheVariants as stop
-use Rattle.cv_session.specs.Responses.{Response, Refuses as Denies, last_job, at_canvas, at_job, unless_ended, ended_reason, saves, response}
-use Rattle.cv_session.specs.Plays.{Mode, Begins, Written, Play, due_in, picture_by, whole_picture, file_of, file_with, written_by, Plays}
+use Rattle.cv_session.specs.Responses.{Response, Refuses as Denies, held_by, last_job, at_job, unless_ended, ended_reason, ready_of, saves, response}
+use Rattle.cv_session.specs.Plays.{Begins, Written, Play, due_in, refusals, picture_by, file_of, file_with, Plays}
+use Rattle.cv_session.specs.Entered.{MayAct}
 use Rattle.cv_session.specs.Files.{Puts, Breaks, IsOther, Spares, SparesOne}
-use Rattle.cv_session.specs.Outputs.{IsPut, Done, Broken, CommandEnds, RefusedWrite}
-use Rattle.cv_session.specs.Seats.{Seat, now, task_of, tasks_of, Enters, Stands, Refuses, play_of, Moves, Obeys}
+use Rattle.cv_session.specs.Outputs.{IsPut, PreviewEnters, SaveEnters, RefusedWrite, Done, CommandEnds}
+use Rattle.cv_session.specs.Seats.{Seat, now, task_of, tasks_of, IsSeat, Enters, Stands, play_of, Obeys}
 use Rattle.cv_session.proofs.PlayLemmas.{same_some}
-use Rattle.cv_session.proofs.WriteLemmas.{IsReached}
-use Rattle.cv_session.proofs.MoveLemmas.{behind, Leaves, denies}
+use Rattle.cv_session.proofs.WriteLemmas.{last_is_there}
+use Rattle.cv_session.proofs.SeatLemmas.{seat_goes_on, seat_stands}
+use Rattle.cv_session.proofs.MoveLemmas.{behind, denies}
 use Rattle.cv_session.proofs.ObeyLemmas.{enters, no_canvas, no_job}
 
 -- ---- files of a tray
@@ -156,3 +163,264 @@ refused_ends old mid new line c why (Ok n) tray d s f = record {
 }
 refused_ends old mid new line c why (Err stop.Tray) tray d s f = absurd f
 refused_ends old mid new line c why (Err stop.NoMemory) tray d s f = tt
+
+-- ---- pictures
+
+few_in : (jobs : List Job) (m : ℕ) (job : Job) → AllByRecursion (λ (job : Job). length job.slots ≤ 32) jobs → slice_get jobs m ≡ Some job
+    → length job.slots ≤ 32
+few_in [] m job f e = absurd cc
+few_in (x ∷ xs) zero job f e = subst (λ (job : Job). length job.slots ≤ 32) (same_some e) f.0
+few_in (x ∷ xs) (suc m) job f e = few_in xs m job f.1 e
+
+few_slots : (jobs : List Job) (j : ℕ) (job : Job) → AllByRecursion (λ (job : Job). length job.slots ≤ 32) jobs → job_in jobs j ≡ Some job
+    → length job.slots ≤ 32
+few_slots jobs zero job f e = absurd cc
+few_slots jobs (suc m) job f e = few_in jobs m job f e
+
+-- the picture that a preview shows is composed of the job's ready slots
+preview_shows : (h : History) (j : ℕ) (row : Row) → IsKnown h → FitsOpening h.opening → row_in h.tables.rows j ≡ Some row → row.ended ≡ None
+    → picture_by (state h) (act.Preview j (ready_bits row.slots)) ≡ Some (composed (compose_of row))
+preview_shows h j row known fits e live =
+    let shown = known.jobs j row e in
+    let few = few_slots (present h).jobs j (job_of row) (jobs_have_few_slots h.opening h.journal fits known.legal) shown.job in
+    let listed = preview_lists_ready (present h) 0 j (ready_bits row.slots) (subst (λ o. IsSomeAnd o (λ (job : Job). (job.ended ≡ None) × (ready_bits row.slots ≡ ready_bits job.slots))) (sym shown.job) (live, refl))
+        (subst (λ o. IsSomeAnd o (λ (job : Job). length job.slots ≤ 32)) (sym shown.job) few) in
+    let are : listed_slots (ready_bits row.slots) ≡ ready_from 0 row.slots = listed ∙ ap (λ (o : Option Job). option_map_or (λ (job : Job). ready_from 0 job.slots) o []) shown.job in
+    ap (λ (s : State). picture_by s (act.Preview j (ready_bits row.slots))) (sym known.state)
+    ∙ ap (λ (o : Option Job). option_map (λ (t : Taken). picture_with t.project t.view (listed_slots (ready_bits row.slots))) (option_map (taken_of j) o)) shown.job
+    ∙ ap (λ (slots : List ℕ). Some (picture_with (project_of row.store) row.view slots)) are
+    ∙ ap Some (sym shown.ready)
+
+-- what was finished last on a canvas is what its job took
+taken_own : (s : State) (j : ℕ) (t : Taken) → taken s j ≡ Some t → taken s t.job ≡ Some t
+taken_own s j t h = by_job (job_in s.jobs j) h
+  where
+    by_job : (o : Option Job) → option_map (taken_of j) o ≡ Some t → taken s t.job ≡ Some t
+    by_job None e = absurd cc
+    by_job (Some job) e = ap (taken s) (sym (ap (λ (t : Taken). t.job) (same_some e))) ∙ h
+
+finished_taken : (s : State) (c : ℕ) (a : Act) (t : Taken) → finished_by s c a ≡ Some t → taken s t.job ≡ Some t
+finished_taken s c (act.Finish j) t h = by_test (is_on s c j) h
+  where
+    by_test : (x : Bool) → (if x then taken s j else None) ≡ Some t → taken s t.job ≡ Some t
+    by_test true h = taken_own s j t h
+    by_test false h = absurd cc
+finished_taken s c (act.Edit e v) t h = absurd cc
+finished_taken s c (act.View k view) t h = absurd cc
+finished_taken s c (act.Start k j) t h = absurd cc
+finished_taken s c (act.Look j at hit) t h = absurd cc
+finished_taken s c (act.Deliver j at fate) t h = absurd cc
+finished_taken s c (act.Compose j) t h = absurd cc
+finished_taken s c (act.Fail j) t h = absurd cc
+finished_taken s c (act.Cancel j) t h = absurd cc
+finished_taken s c (act.Preview j ready) t h = absurd cc
+finished_taken s c (act.Save k j) t h = absurd cc
+
+last_taken : (s : State) (c : ℕ) (es : List Entry) (t : Taken) → last_finished s c es ≡ Some t → taken s t.job ≡ Some t
+last_taken s c [] t h = absurd cc
+last_taken s c (e ∷ es) t h = by_rest (last_finished s c es) refl (last_taken s c es t) h
+  where
+    by_rest : (o : Option Taken) → last_finished s c es ≡ o → (last_finished s c es ≡ Some t → taken s t.job ≡ Some t) → option_or o (finished_by s c e.act) ≡ Some t
+        → taken s t.job ≡ Some t
+    by_rest None g rec h = finished_taken s c e.act t h
+    by_rest (Some u) g rec h = rec (g ∙ h)
+
+-- the picture that a save shows is that of all slots of the job that was finished last
+save_shows : (h : History) (c : ℕ) (tab : Tab) (last : PublishedJob) → IsKnown h → slice_get h.tables.tabs c ≡ Some tab → tab.published ≡ Some last
+    → picture_by (state h) (act.Save c last.job) ≡ Some (composed (whole_of last.row))
+save_shows h c tab last known e p =
+    let shown = subst (λ o. IfSome o (ShowsLast (present h) c)) p (known.canvases c tab e).last in
+    let law = published_is_last_finished h.opening h.journal c known.legal (there (slice_get (present h).canvases c) refl shown.taken) in
+    let took = last_taken (present h) c h.journal (taken_in last) (sym law ∙ shown.taken) in
+    ap (λ (s : State). picture_by s (act.Save c last.job)) (sym known.state)
+    ∙ ap (option_map (λ (t : Taken). picture t.project t.view)) took
+    ∙ ap Some (sym shown.picture)
+  where
+    there : (o : Option Canvas) → slice_get (present h).canvases c ≡ o → option_and_then (λ (k : Canvas). k.published) o ≡ Some (taken_in last)
+        → IsSome (slice_get h.opening.canvases c)
+    there None g f = absurd cc
+    there (Some k) g f = ap is_some (sym (canvases_stay h.opening h.journal c) ∙ ap (option_map (λ (k : Canvas). k.spec)) g)
+
+-- ---- what the desk answers
+
+job_in_map : (rows : List Row) (j : ℕ) → job_in (map job_of rows) j ≡ option_map job_of (row_in rows j)
+job_in_map rows zero = refl
+job_in_map rows (suc m) = slice_get-map job_of rows m
+
+pub preview_enters : (old new : Seat) (j : ℕ) (r : Result Composition PreviewError) → IsKnown old.history → FitsOpening old.history.opening
+    → PreviewAnswer old.history j r → OnOk r (OfJob (now old) j (λ job. Notes old.history new.history 0 (act.Preview j (ready_bits job.slots))))
+    → new.held ≡ old.held → new.refused ≡ old.refused → PreviewEnters old new j r
+preview_enters old new j (Ok made) known fits answer ok held refused = by_row (row_in old.history.tables.rows j) refl answer
+  where
+    by_row : (o : Option Row) → row_in old.history.tables.rows j ≡ o → IsSomeAnd o (λ row. (row.ended ≡ None) × (made ≡ compose_of row)) → PreviewEnters old new j (Ok made)
+    by_row None e h = absurd h
+    by_row (Some row) e h =
+        let shown = known.jobs j row e in
+        let job : job_in (now old).jobs j ≡ Some (job_of row) = ap (λ (s : State). job_in s.jobs j) (sym known.state) ∙ shown.job in (
+          ready_bits row.slots,
+          record {
+            notes = subst (λ o. IsSomeAnd o (λ (job : Job). Notes old.history new.history 0 (act.Preview j (ready_bits job.slots)))) job ok;
+            held = held;
+            refused = refused;
+          },
+          preview_shows old.history j row known fits e h.0 ∙ ap (λ (m : Composition). Some (composed m)) (sym h.1),
+        )
+preview_enters old new j (Err preview_error.UnknownJob) known fits answer ok held refused = by_row (row_in old.history.tables.rows j) refl answer
+  where
+    by_row : (o : Option Row) → row_in old.history.tables.rows j ≡ o → is_none o ≡ true → job_in (now old).jobs j ≡ None
+    by_row None e h = job_in_map old.history.tables.rows j ∙ ap (option_map job_of) e
+    by_row (Some row) e h = absurd cc
+preview_enters old new j (Err (preview_error.Ended how)) known fits answer ok held refused = by_row (row_in old.history.tables.rows j) refl answer
+  where
+    by_row : (o : Option Row) → row_in old.history.tables.rows j ≡ o → IsSomeAnd o (λ row. row.ended ≡ Some how) → OfJob (now old) j (λ job. job.ended ≡ Some how)
+    by_row None e h = absurd h
+    by_row (Some row) e h =
+        let job : job_in (now old).jobs j ≡ Some (job_of row) = ap (λ (s : State). job_in s.jobs j) (sym known.state) ∙ (known.jobs j row e).job in
+        subst (λ o. IsSomeAnd o (λ (job : Job). job.ended ≡ Some how)) (sym job) h
+preview_enters old new j (Err preview_error.NoMemory) known fits answer ok held refused = tt
+
+pub save_enters : (old new : Seat) (c : ℕ) (r : Result Composition SaveError) → IsKnown old.history → SaveAnswer old.history c r
+    → SaveNotes old.history new.history 0 c r → new.held ≡ old.held → new.refused ≡ old.refused → SaveEnters old new c r
+save_enters old new c (Ok made) known answer notes held refused = by_tab (slice_get old.history.tables.tabs c) refl answer
+  where
+    by_last : (tab : Tab) (o : Option PublishedJob) → slice_get old.history.tables.tabs c ≡ Some tab → tab.published ≡ o → IsSomeAnd o (λ last. made ≡ whole_of last.row)
+        → SaveEnters old new c (Ok made)
+    by_last tab None e p h = absurd h
+    by_last tab (Some last) e p h =
+        let canvas : slice_get (now old).canvases c ≡ Some (canvas_of tab) = slice_get-map canvas_of old.history.tables.tabs c ∙ ap (option_map canvas_of) e in
+        let noted = subst (λ o. IsSomeAnd o (λ (k : Canvas). IsSomeAnd k.published (λ (t : Taken). Notes old.history new.history 0 (act.Save c t.job)))) canvas notes in (
+          last.job,
+          record {
+            notes = subst (λ o. IsSomeAnd (option_map taken_in o) (λ (t : Taken). Notes old.history new.history 0 (act.Save c t.job))) p noted;
+            held = held;
+            refused = refused;
+          },
+          save_shows old.history c tab last known e p ∙ ap (λ (m : Composition). Some (composed m)) (sym h),
+        )
+
+    by_tab : (o : Option Tab) → slice_get old.history.tables.tabs c ≡ o → IsSomeAnd o (λ tab. IsSomeAnd tab.published (λ last. made ≡ whole_of last.row))
+        → SaveEnters old new c (Ok made)
+    by_tab None e h = absurd h
+    by_tab (Some tab) e h = by_last tab tab.published e refl h
+save_enters old new c (Err save_error.UnknownCanvas) known answer notes held refused = none_of (slice_get (now old).canvases c) answer
+  where
+    none_of : (o : Option Canvas) → is_none o ≡ true → o ≡ None
+    none_of None h = refl
+    none_of (Some k) h = absurd cc
+save_enters old new c (Err save_error.Nothing) known answer notes held refused = answer
+save_enters old new c (Err save_error.NoMemory) known answer notes held refused = tt
+
+-- a session is whole behind them
+pub preview_seat : (old new : Seat) (j : ℕ) (r : Result Composition PreviewError) → IsSeat old → PreviewEnters old new j r → OnErr r (Stands old new)
+    → new.held ≡ old.held → new.specs ≡ old.specs → new.lasts ≡ old.lasts → IsSeat new
+preview_seat old new j (Ok made) seat f g held specs lasts = seat_goes_on old new (act.Preview j f.0) seat f.1.notes refl refl refl held specs lasts
+preview_seat old new j (Err e) seat f g held specs lasts = seat_stands old new seat g.stays held specs lasts
+
+pub save_seat : (old new : Seat) (c : ℕ) (r : Result Composition SaveError) → IsSeat old → SaveEnters old new c r → OnErr r (Stands old new)
+    → new.held ≡ old.held → new.specs ≡ old.specs → new.lasts ≡ old.lasts → IsSeat new
+save_seat old new c (Ok made) seat f g held specs lasts = seat_goes_on old new (act.Save c f.0) seat f.1.notes refl refl refl held specs lasts
+save_seat old new c (Err e) seat f g held specs lasts = seat_stands old new seat g.stays held specs lasts
+
+-- ---- the commands
+
+-- a command that speaks of the last job of a canvas, which has an end
+ended_job : (s : State) (c j : ℕ) (h : How) (act_on : ℕ → Act) → IsSome (slice_get s.canvases c) → last_job s c ≡ Some j → OfJob s j (λ job. job.ended ≡ Some h)
+    → at_job s c (λ k. unless_ended (how s k) (act_on k)) ≡ Denies (ended_reason h)
+ended_job s c j h act_on there last e = by_canvas (slice_get s.canvases c) there
+  where
+    ask : ℕ → Response
+    ask k = unless_ended (how s k) (act_on k)
+    how_is : (o : Option Job) → IsSomeAnd o (λ job. job.ended ≡ Some h) → option_and_then (λ (job : Job). job.ended) o ≡ Some h
+    how_is None f = absurd f
+    how_is (Some job) f = f
+    by_canvas : (o : Option Canvas) → is_some o ≡ true
+        → option_map_or (λ (k : Canvas). option_map_or ask (last_job s c) (Denies reason.NoJob)) o (Denies reason.UnknownCanvas) ≡ Denies (ended_reason h)
+    by_canvas None there = absurd cc
+    by_canvas (Some k) there =
+        ap (λ (o : Option ℕ). option_map_or ask o (Denies reason.NoJob)) last
+        ∙ ap (λ (o : Option How). unless_ended o (act_on j)) (how_is (job_in s.jobs j) e)
+
+-- a seat is as it was
+same_seat : (seat : Seat) → Stands seat seat
+same_seat seat = record {
+  stays = record { opening = refl; journal = refl; tables = refl; spare = omega arith };
+  held = refl;
+  refused = refl;
+}
+
+-- a picture that a command writes
+picture_ends : (old new : Seat) (line : ℕ) (c : Command) (a : Act) (file bytes : List ℕ) (p : Raster Rgb) (r : Result ℕ Stop) (tray tray' : TraySeen)
+    → MayAct (now old) (length (tasks_of old)) c a → held_by a ≡ [] → ((line seen : ℕ) → refusals line seen a ≡ []) → file_of c ≡ Some file
+    → picture_by (did (now old) 0 a) a ≡ Some p → bytes ≡ ppm_of p → Enters old new a → IsPut (record { name = file; bytes = bytes }) r tray tray'
+    → CommandEnds old new line c r tray tray'
+picture_ends old new line c a file bytes p r tray tray' may none silent names shows are enters_ put =
+    put_ends old new line c (record { name = file; bytes = bytes }) r tray tray'
+    (enters old new line c a (record { name = file; bytes = bytes } ∷ []) may (record {
+      notes = enters_.notes;
+      held = ap (map task_of) enters_.held ∙ sym (append-nil (tasks_of old)) ∙ ap (λ (ts : List Task). tasks_of old ++ ts) (sym none);
+      refused = enters_.refused ∙ sym (append-nil old.refused) ∙ ap (λ (rs : List Refused). old.refused ++ rs) (sym (silent line (suc (length old.history.journal))));
+      writes = ap (λ (o : Option (List ℕ)). option_to_list (option_and_then (λ name. option_map (file_with name) (picture_by (did (now old) 0 a) a)) o)) names
+          ∙ ap (λ (o : Option (Raster Rgb)). option_to_list (option_map (file_with file) o)) shows
+          ∙ ap (λ (b : List ℕ). record { name = file; bytes = b } ∷ []) (sym are);
+    })) put
+
+pub preview_ends : (old new : Seat) (line c j : ℕ) (file bytes : List ℕ) (made : Composition) (r : Result ℕ Stop) (tray tray' : TraySeen)
+    → IsSome (slice_get (now old).canvases c) → last_job (now old) c ≡ Some j → PreviewEnters old new j (Ok made) → bytes ≡ ppm_of (composed made)
+    → IsPut (record { name = file; bytes = bytes }) r tray tray' → CommandEnds old new line (command.Preview c file) r tray tray'
+preview_ends old new line c j file bytes made r tray tray' there last f are put =
+    picture_ends old new line (command.Preview c file) (act.Preview j f.0) file bytes (composed made) r tray tray'
+    (there, subst (λ o. IsSomeAnd o (λ k. (ready : ℕ) × (act.Preview j f.0 ≡ act.Preview k ready))) (sym last) (f.0, refl))
+    refl (λ line seen. refl) refl f.2 are f.1 put
+
+pub save_ends : (old new : Seat) (line c : ℕ) (file bytes : List ℕ) (made : Composition) (r : Result ℕ Stop) (tray tray' : TraySeen)
+    → SaveEnters old new c (Ok made) → bytes ≡ ppm_of (composed made)
+    → IsPut (record { name = file; bytes = bytes }) r tray tray' → CommandEnds old new line (command.Save c file) r tray tray'
+save_ends old new line c file bytes made r tray tray' f are put =
+    picture_ends old new line (command.Save c file) (act.Save c f.0) file bytes (composed made) r tray tray'
+    (f.0, refl) refl (λ line seen. refl) refl f.2 are f.1 put
+
+-- refused ones
+
+pub preview_no_canvas : (old new : Seat) (line c : ℕ) (file : List ℕ) (r : Result ℕ Stop) (tray : TraySeen) → slice_get (now old).canvases c ≡ None
+    → RefusedWrite old new line reason.UnknownCanvas r → CommandEnds old new line (command.Preview c file) r tray tray
+preview_no_canvas old new line c file r tray h f =
+    refused_ends old old new line (command.Preview c file) reason.UnknownCanvas r tray (no_canvas (now old) c _ h) (same_seat old) f
+
+pub preview_no_job : (old new : Seat) (line c : ℕ) (file : List ℕ) (r : Result ℕ Stop) (tray : TraySeen) → IsSome (slice_get (now old).canvases c)
+    → last_job (now old) c ≡ None → RefusedWrite old new line reason.NoJob r → CommandEnds old new line (command.Preview c file) r tray tray
+preview_no_job old new line c file r tray there h f =
+    refused_ends old old new line (command.Preview c file) reason.NoJob r tray (no_job (now old) c _ there h) (same_seat old) f
+
+pub preview_ended : (old mid new : Seat) (line c j : ℕ) (h : How) (file : List ℕ) (r : Result ℕ Stop) (tray : TraySeen) → IsSome (slice_get (now old).canvases c)
+    → last_job (now old) c ≡ Some j → PreviewEnters old mid j (Err (preview_error.Ended h)) → Stands old mid → RefusedWrite mid new line (ended_reason h) r
+    → CommandEnds old new line (command.Preview c file) r tray tray
+preview_ended old mid new line c j h file r tray there last e s f =
+    refused_ends old mid new line (command.Preview c file) (ended_reason h) r tray
+    (subst (λ (x : State). response x (length (tasks_of mid)) (command.Preview c file) ≡ Denies (ended_reason h)) (sym (ap state_of s.stays.tables))
+        (ended_job (now old) c j h (λ k. act.Preview k (ready_of (now old) k)) there last e)) s f
+
+pub save_no_canvas : (old mid new : Seat) (line c : ℕ) (file : List ℕ) (r : Result ℕ Stop) (tray : TraySeen) → SaveEnters old mid c (Err save_error.UnknownCanvas)
+    → Stands old mid → RefusedWrite mid new line reason.UnknownCanvas r → CommandEnds old new line (command.Save c file) r tray tray
+save_no_canvas old mid new line c file r tray h s f =
+    refused_ends old mid new line (command.Save c file) reason.UnknownCanvas r tray
+    (subst (λ (x : State). response x (length (tasks_of mid)) (command.Save c file) ≡ Denies reason.UnknownCanvas) (sym (ap state_of s.stays.tables))
+        (no_canvas (now old) c _ h)) s f
+
+pub save_nothing : (old mid new : Seat) (line c : ℕ) (file : List ℕ) (r : Result ℕ Stop) (tray : TraySeen) → SaveEnters old mid c (Err save_error.Nothing)
+    → Stands old mid → RefusedWrite mid new line reason.Nothing r → CommandEnds old new line (command.Save c file) r tray tray
+save_nothing old mid new line c file r tray h s f =
+    refused_ends old mid new line (command.Save c file) reason.Nothing r tray
+    (subst (λ (x : State). response x (length (tasks_of mid)) (command.Save c file) ≡ Denies reason.Nothing) (sym (ap state_of s.stays.tables))
+        (by_canvas (slice_get (now old).canvases c) h)) s f
+  where
+    by_canvas : (o : Option Canvas) → IsSomeAnd o (λ (k : Canvas). k.published ≡ None)
+        → option_map_or (λ (k : Canvas). option_map_or (saves c) k.published (Denies reason.Nothing)) o (Denies reason.UnknownCanvas) ≡ Denies reason.Nothing
+    by_canvas None h = absurd h
+    by_canvas (Some k) h = ap (λ (o : Option Taken). option_map_or (saves c) o (Denies reason.Nothing)) h
+
+-- the last job of a canvas is there
+pub last_unknown : (s : State) (c j : ℕ) → last_job s c ≡ Some j → job_in s.jobs j ≡ None → ⊥
+last_unknown s c j h e = let there = last_is_there s c j h in absurd (none (sym e ∙ there.1))
+  where
+    none : {job : Job} → None ≡ Some job → ⊥
+    none h = absurd cc

@@ -95,7 +95,7 @@ last_there k c j (job ∷ jobs) h = by_rest (last_from (suc k) c jobs) refl (las
     by_rest None e rec h = by_test (job.canvas == c) h
     by_rest (Some i) e rec h = later (rec (e ∙ h))
 
-last_is_there : (s : State) (c j : ℕ) → last_job s c ≡ Some j → IsThere s j
+pub last_is_there : (s : State) (c j : ℕ) → last_job s c ≡ Some j → IsThere s j
 last_is_there s c j h =
     let r = last_there 1 c j s.jobs h in
     let n : j ≡ suc r.0 = r.1 ∙ omega arith in
