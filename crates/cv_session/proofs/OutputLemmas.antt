@@ -1,23 +1,27 @@
 -- The commands that write pictures: what they leave of a session and of the tray.
-use Rattle.std.proofs.Common.{◌≡◌, ◌≢◌, refl, ap, sym, ◌∙◌, subst, ◌≤◌, ◌<◌, ℕ, zero, suc, ◌+◌, Bool, true, false, if◌then◌else◌, List, [], ◌∷◌, ◌++◌, map, length, take, drop, slice_get, Option, Some, None, is_some, is_none, option_map, option_and_then, option_to_list, arith, IsSome, IsSomeAnd, IfSome, IsTrue, OnOk, OnErr, Result, Ok, Err}
+use Rattle.std.proofs.Common.{◌≡◌, refl, ap, sym, ◌∙◌, subst, ◌≤◌, ℕ, zero, suc, ◌+◌, Bool, true, false, if◌then◌else◌, List, [], ◌∷◌, ◌++◌, map, length, take, slice_get, Option, Some, None, is_some, option_map, option_and_then, option_to_list, arith, IsSome, IsSomeAnd, IfSome, IsTrue, OnOk, OnErr, Result, Ok, Err}
 use Rattle.std.specs.List.{AllByRecursion}
 use Rattle.std.specs.Option.{option_or, option_map_or}
-use Rattle.std.proofs.lemmas.List.{append-nil}
+use Rattle.std.proofs.lemmas.List.{append-nil, length-append}
 use Rattle.std.proofs.lemmas.Option.{slice_get-map}
 use Rattle.cv_model.specs.declared.colour.Rgb.{Rgb}
 use Rattle.cv_model.specs.Paintings.{Composition, composed}
 use Rattle.cv_model.specs.Pictures.{picture, picture_with}
 use Rattle.cv_model.specs.Rasters.{Raster, ppm_of}
-use Rattle.cv_outside.specs.declared.ends.TrayEnd.TheVariants.{Kept}
-use Rattle.cv_outside.specs.Reads.{SameFiles}
+use Rattle.cv_outside.specs.Counts.{Rose}
+use Rattle.cv_model.specs.Layers.{Opening}
+use Rattle.cv_model.specs.Views.{PixelGrid}
+use Rattle.cv_event.specs.Legality.{IsLegal}
+use Rattle.cv_script.specs.Scripts.{IsScript}
 use Rattle.cv_outside.specs.Seen.{NamedFiles, TraySeen}
-use Rattle.cv_outside.specs.Writes.{OthersStay, Writes}
+use Rattle.cv_outside.specs.Writes.{OthersStay}
 use Rattle.cv_event.specs.declared.entry.Act.{Act}
 use Rattle.cv_event.specs.declared.entry.Act.TheVariants as act
 use Rattle.cv_event.specs.declared.entry.Entry.{Entry}
 use Rattle.cv_event.specs.declared.entry.How.{How}
 use Rattle.cv_event.specs.declared.refused.Reason.{Reason}
 use Rattle.cv_event.specs.declared.refused.Reason.TheVariants as reason
+use Rattle.cv_event.specs.declared.refused.Refused.{Refused}
 use Rattle.cv_event.specs.declared.slot.Task.{Task}
 use Rattle.cv_event.specs.States.{Taken, Job, Canvas, State, job_in, taken_of, did}
 use Rattle.cv_event.specs.Legality.{OfJob, how, ready_from, ready_bits}
@@ -31,7 +35,7 @@ use Rattle.cv_event.proofs.DueLemmas.{canvases_stay}
 use Rattle.cv_tables.specs.Rows.{Row, row_in, job_of, compose_of, whole_of}
 use Rattle.cv_tables.specs.Tabs.{Tab, PublishedJob, taken_in, canvas_of, state_of}
 use Rattle.cv_store.specs.Stores.{project_of}
-use Rattle.cv_desk.specs.Desks.{History, state, Notes}
+use Rattle.cv_desk.specs.Desks.{History, state, Notes, Stays}
 use Rattle.cv_desk.specs.Answers.{PreviewAnswer, SaveAnswer, SaveNotes}
 use Rattle.cv_desk.specs.declared.errors.PreviewError.{PreviewError}
 use Rattle.cv_desk.specs.declared.errors.PreviewError.TheVariants as preview_error
@@ -47,10 +51,14 @@ use Rattle.cv_session.specs.Responses.{Response, Refuses as Denies, held_by, las
 use Rattle.cv_session.specs.Plays.{Begins, Written, Play, due_in, refusals, picture_by, file_of, file_with, Plays}
 use Rattle.cv_session.specs.Entered.{MayAct}
 use Rattle.cv_session.specs.Files.{Puts, Breaks, IsOther, Spares, SparesOne}
+use Rattle.cv_session.specs.declared.report.Report.{Report}
+use Rattle.cv_session.specs.Follows.{at_first, IsThrough, IsBefore}
+use Rattle.cv_session.specs.Writes.{is_refused, writes}
+use Rattle.cv_session.specs.Reports.{reported, RunDone, RunBroken}
 use Rattle.cv_session.specs.Outputs.{IsPut, PreviewEnters, SaveEnters, RefusedWrite, Done, CommandEnds}
 use Rattle.cv_session.specs.Seats.{Seat, now, task_of, tasks_of, IsSeat, Enters, Stands, play_of, Obeys}
-use Rattle.cv_session.proofs.PlayLemmas.{same_some}
-use Rattle.cv_session.proofs.WriteLemmas.{last_is_there}
+use Rattle.cv_session.proofs.PlayLemmas.{same_some, joined}
+use Rattle.cv_session.proofs.WriteLemmas.{last_is_there, name_there, not_refused_yet, files_are_writes}
 use Rattle.cv_session.proofs.SeatLemmas.{seat_goes_on, seat_stands}
 use Rattle.cv_session.proofs.MoveLemmas.{behind, denies}
 use Rattle.cv_session.proofs.ObeyLemmas.{enters, no_canvas, no_job}
@@ -60,8 +68,8 @@ use Rattle.cv_session.proofs.ObeyLemmas.{enters, no_canvas, no_job}
 -- files are put one after the other
 pub puts_more : (fs gs : List Written) (old mid new : NamedFiles) → Puts fs old mid → Puts gs mid new → Puts (fs ++ gs) old new
 puts_more [] [] old mid new f g = λ q. g q ∙ f q
-puts_more [] (w ∷ ws) old mid new f g = (g.0, ((g.1.0 , λ q n. g.1.1 q n ∙ f q), g.2))
-puts_more (v ∷ vs) gs old mid new f g = (f.0, (f.1, puts_more vs gs f.0 mid new f.2 g))
+puts_more [] (w ∷ ws) old mid new f g = (g.0, (g.1.0, λ q n. g.1.1 q n ∙ f q), g.2)
+puts_more (v ∷ vs) gs old mid new f g = (f.0, f.1, puts_more vs gs f.0 mid new f.2 g)
 
 -- those put before one whose write failed
 pub broken_at : (fs : List Written) (w : Written) (old mid new : NamedFiles) → Puts fs old mid → OthersStay mid new w.name
@@ -108,15 +116,16 @@ put_spares c file (Err stop.NoMemory) old new f p t = λ name other. p t name
 
 -- a command that is done by one entry, and writes this file
 pub put_ends : (old new : Seat) (line : ℕ) (c : Command) (file : Written) (r : Result ℕ Stop) (tray tray' : TraySeen)
-    → Obeys old new line c (file ∷ []) → IsPut file r tray tray' → CommandEnds old new line c r tray tray'
-put_ends old new line c file (Ok n) tray tray' o p = record {
+    → file_of c ≡ Some file.name → Obeys old new line c (file ∷ []) → new.refused ≡ old.refused → IsPut file r tray tray' → CommandEnds old new line c r tray tray'
+put_ends old new line c file (Ok n) tray tray' f o s p = record {
   files = file ∷ [];
   obeys = o;
   count = p.0;
-  puts = λ t. (tray'.files, (p.1 t, λ q. refl));
+  puts = λ t. (tray'.files, p.1 t, λ q. refl);
 }
-put_ends old new line c file (Err stop.Tray) tray tray' o p = record { file = file; obeys = o; fault = p.0; others = p.1 }
-put_ends old new line c file (Err stop.NoMemory) tray tray' o p = tt
+put_ends old new line c file (Err stop.Tray) tray tray' f o s p =
+    record { file = file; names = f; obeys = o; refused = s; fault = p.0; others = p.1 }
+put_ends old new line c file (Err stop.NoMemory) tray tray' f o s p = tt
 
 -- a command that writes no file
 pub no_files : (old new : Seat) (line : ℕ) (c : Command) (tray : TraySeen) → Obeys old new line c [] → Done old new line c 0 tray tray
@@ -267,16 +276,16 @@ preview_enters old new j (Ok made) known fits answer ok held refused = by_row (r
         )
 preview_enters old new j (Err preview_error.UnknownJob) known fits answer ok held refused = by_row (row_in old.history.tables.rows j) refl answer
   where
-    by_row : (o : Option Row) → row_in old.history.tables.rows j ≡ o → is_none o ≡ true → job_in (now old).jobs j ≡ None
+    by_row : (o : Option Row) → row_in old.history.tables.rows j ≡ o → is_some o ≡ false → job_in (now old).jobs j ≡ None
     by_row None e h = job_in_map old.history.tables.rows j ∙ ap (option_map job_of) e
     by_row (Some row) e h = absurd cc
-preview_enters old new j (Err (preview_error.Ended how)) known fits answer ok held refused = by_row (row_in old.history.tables.rows j) refl answer
+preview_enters old new j (Err (preview_error.Ended e)) known fits answer ok held refused = by_row (row_in old.history.tables.rows j) refl answer
   where
-    by_row : (o : Option Row) → row_in old.history.tables.rows j ≡ o → IsSomeAnd o (λ row. row.ended ≡ Some how) → OfJob (now old) j (λ job. job.ended ≡ Some how)
-    by_row None e h = absurd h
-    by_row (Some row) e h =
-        let job : job_in (now old).jobs j ≡ Some (job_of row) = ap (λ (s : State). job_in s.jobs j) (sym known.state) ∙ (known.jobs j row e).job in
-        subst (λ o. IsSomeAnd o (λ (job : Job). job.ended ≡ Some how)) (sym job) h
+    by_row : (o : Option Row) → row_in old.history.tables.rows j ≡ o → IsSomeAnd o (λ row. row.ended ≡ Some e) → OfJob (now old) j (λ job. job.ended ≡ Some e)
+    by_row None is h = absurd h
+    by_row (Some row) is h =
+        let job : job_in (now old).jobs j ≡ Some (job_of row) = ap (λ (s : State). job_in s.jobs j) (sym known.state) ∙ (known.jobs j row is).job in
+        subst (λ o. IsSomeAnd o (λ (job : Job). job.ended ≡ Some e)) (sym job) h
 preview_enters old new j (Err preview_error.NoMemory) known fits answer ok held refused = tt
 
 pub save_enters : (old new : Seat) (c : ℕ) (r : Result Composition SaveError) → IsKnown old.history → SaveAnswer old.history c r
@@ -304,22 +313,29 @@ save_enters old new c (Ok made) known answer notes held refused = by_tab (slice_
     by_tab (Some tab) e h = by_last tab tab.published e refl h
 save_enters old new c (Err save_error.UnknownCanvas) known answer notes held refused = none_of (slice_get (now old).canvases c) answer
   where
-    none_of : (o : Option Canvas) → is_none o ≡ true → o ≡ None
+    none_of : (o : Option Canvas) → is_some o ≡ false → o ≡ None
     none_of None h = refl
     none_of (Some k) h = absurd cc
 save_enters old new c (Err save_error.Nothing) known answer notes held refused = answer
 save_enters old new c (Err save_error.NoMemory) known answer notes held refused = tt
 
 -- a session is whole behind them
-pub preview_seat : (old new : Seat) (j : ℕ) (r : Result Composition PreviewError) → IsSeat old → PreviewEnters old new j r → OnErr r (Stands old new)
-    → new.held ≡ old.held → new.specs ≡ old.specs → new.lasts ≡ old.lasts → IsSeat new
-preview_seat old new j (Ok made) seat f g held specs lasts = seat_goes_on old new (act.Preview j f.0) seat f.1.notes refl refl refl held specs lasts
-preview_seat old new j (Err e) seat f g held specs lasts = seat_stands old new seat g.stays held specs lasts
+pub preview_seat : (old new : Seat) (j : ℕ) (r : Result Composition PreviewError) → IsSeat old
+    → PreviewAnswer old.history j r → OnOk r (OfJob (now old) j (λ job. Notes old.history new.history 0 (act.Preview j (ready_bits job.slots))))
+    → new.held ≡ old.held → new.specs ≡ old.specs → new.lasts ≡ old.lasts → OnErr r (Stays old.history new.history) → IsSeat new
+preview_seat old new j (Ok made) seat answer ok held specs lasts err = by_job (job_in (now old).jobs j) ok
+  where
+    by_job : (o : Option Job) → IsSomeAnd o (λ job. Notes old.history new.history 0 (act.Preview j (ready_bits job.slots))) → IsSeat new
+    by_job None notes = absurd notes
+    by_job (Some job) notes = seat_goes_on old new (act.Preview j (ready_bits job.slots)) seat notes refl refl refl held specs lasts
+preview_seat old new j (Err e) seat answer ok held specs lasts err = seat_stands old new seat err held specs lasts
 
-pub save_seat : (old new : Seat) (c : ℕ) (r : Result Composition SaveError) → IsSeat old → SaveEnters old new c r → OnErr r (Stands old new)
-    → new.held ≡ old.held → new.specs ≡ old.specs → new.lasts ≡ old.lasts → IsSeat new
-save_seat old new c (Ok made) seat f g held specs lasts = seat_goes_on old new (act.Save c f.0) seat f.1.notes refl refl refl held specs lasts
-save_seat old new c (Err e) seat f g held specs lasts = seat_stands old new seat g.stays held specs lasts
+pub save_seat : (old new : Seat) (c : ℕ) (r : Result Composition SaveError) → IsSeat old → IsKnown old.history → SaveAnswer old.history c r
+    → SaveNotes old.history new.history 0 c r → new.held ≡ old.held → new.refused ≡ old.refused → new.specs ≡ old.specs → new.lasts ≡ old.lasts → IsSeat new
+save_seat old new c (Ok made) seat known answer notes held refused specs lasts =
+    let f = save_enters old new c (Ok made) known answer notes held refused in
+    seat_goes_on old new (act.Save c f.0) seat f.1.notes refl refl refl held specs lasts
+save_seat old new c (Err e) seat known answer notes held refused specs lasts = seat_stands old new seat notes held specs lasts
 
 -- ---- the commands
 
@@ -354,7 +370,7 @@ picture_ends : (old new : Seat) (line : ℕ) (c : Command) (a : Act) (file bytes
     → picture_by (did (now old) 0 a) a ≡ Some p → bytes ≡ ppm_of p → Enters old new a → IsPut (record { name = file; bytes = bytes }) r tray tray'
     → CommandEnds old new line c r tray tray'
 picture_ends old new line c a file bytes p r tray tray' may none silent names shows are enters_ put =
-    put_ends old new line c (record { name = file; bytes = bytes }) r tray tray'
+    put_ends old new line c (record { name = file; bytes = bytes }) r tray tray' names
     (enters old new line c a (record { name = file; bytes = bytes } ∷ []) may (record {
       notes = enters_.notes;
       held = ap (map task_of) enters_.held ∙ sym (append-nil (tasks_of old)) ∙ ap (λ (ts : List Task). tasks_of old ++ ts) (sym none);
@@ -362,7 +378,7 @@ picture_ends old new line c a file bytes p r tray tray' may none silent names sh
       writes = ap (λ (o : Option (List ℕ)). option_to_list (option_and_then (λ name. option_map (file_with name) (picture_by (did (now old) 0 a) a)) o)) names
           ∙ ap (λ (o : Option (Raster Rgb)). option_to_list (option_map (file_with file) o)) shows
           ∙ ap (λ (b : List ℕ). record { name = file; bytes = b } ∷ []) (sym are);
-    })) put
+    })) enters_.refused put
 
 pub preview_ends : (old new : Seat) (line c j : ℕ) (file bytes : List ℕ) (made : Composition) (r : Result ℕ Stop) (tray tray' : TraySeen)
     → IsSome (slice_get (now old).canvases c) → last_job (now old) c ≡ Some j → PreviewEnters old new j (Ok made) → bytes ≡ ppm_of (composed made)
@@ -381,15 +397,33 @@ save_ends old new line c file bytes made r tray tray' f are put =
 
 -- refused ones
 
-pub preview_no_canvas : (old new : Seat) (line c : ℕ) (file : List ℕ) (r : Result ℕ Stop) (tray : TraySeen) → slice_get (now old).canvases c ≡ None
-    → RefusedWrite old new line reason.UnknownCanvas r → CommandEnds old new line (command.Preview c file) r tray tray
-preview_no_canvas old new line c file r tray h f =
-    refused_ends old old new line (command.Preview c file) reason.UnknownCanvas r tray (no_canvas (now old) c _ h) (same_seat old) f
+-- what a canvas's last job is
+last_of : (s : State) (c : ℕ) → option_map (λ k. last_job s c) (slice_get s.canvases c) ≡ Some None → IsSome (slice_get s.canvases c) × (last_job s c ≡ None)
+last_of s c e = by_canvas (slice_get s.canvases c) e
+  where
+    by_canvas : (o : Option Canvas) → option_map (λ (k : Canvas). last_job s c) o ≡ Some None → (is_some o ≡ true) × (last_job s c ≡ None)
+    by_canvas None e = absurd cc
+    by_canvas (Some k) e = (refl, same_some e)
 
-pub preview_no_job : (old new : Seat) (line c : ℕ) (file : List ℕ) (r : Result ℕ Stop) (tray : TraySeen) → IsSome (slice_get (now old).canvases c)
-    → last_job (now old) c ≡ None → RefusedWrite old new line reason.NoJob r → CommandEnds old new line (command.Preview c file) r tray tray
-preview_no_job old new line c file r tray there h f =
-    refused_ends old old new line (command.Preview c file) reason.NoJob r tray (no_job (now old) c _ there h) (same_seat old) f
+no_last : (s : State) (c : ℕ) → option_map (λ k. last_job s c) (slice_get s.canvases c) ≡ None → slice_get s.canvases c ≡ None
+no_last s c e = by_canvas (slice_get s.canvases c) e
+  where
+    by_canvas : (o : Option Canvas) → option_map (λ (k : Canvas). last_job s c) o ≡ None → o ≡ None
+    by_canvas None e = refl
+    by_canvas (Some k) e = absurd cc
+
+pub preview_no_canvas : (old new : Seat) (line c : ℕ) (file : List ℕ) (r : Result ℕ Stop) (tray : TraySeen)
+    → option_map (λ k. last_job (now old) c) (slice_get (now old).canvases c) ≡ None
+    → RefusedWrite old new line reason.UnknownCanvas r → CommandEnds old new line (command.Preview c file) r tray tray
+preview_no_canvas old new line c file r tray e f =
+    refused_ends old old new line (command.Preview c file) reason.UnknownCanvas r tray (no_canvas (now old) c _ (no_last (now old) c e)) (same_seat old) f
+
+pub preview_no_job : (old new : Seat) (line c : ℕ) (file : List ℕ) (r : Result ℕ Stop) (tray : TraySeen)
+    → option_map (λ k. last_job (now old) c) (slice_get (now old).canvases c) ≡ Some None → RefusedWrite old new line reason.NoJob r
+    → CommandEnds old new line (command.Preview c file) r tray tray
+preview_no_job old new line c file r tray e f =
+    let last = last_of (now old) c e in
+    refused_ends old old new line (command.Preview c file) reason.NoJob r tray (no_job (now old) c _ last.0 last.1) (same_seat old) f
 
 pub preview_ended : (old mid new : Seat) (line c j : ℕ) (h : How) (file : List ℕ) (r : Result ℕ Stop) (tray : TraySeen) → IsSome (slice_get (now old).canvases c)
     → last_job (now old) c ≡ Some j → PreviewEnters old mid j (Err (preview_error.Ended h)) → Stands old mid → RefusedWrite mid new line (ended_reason h) r
@@ -424,3 +458,73 @@ last_unknown s c j h e = let there = last_is_there s c j h in absurd (none (sym 
   where
     none : {job : Job} → None ≡ Some job → ⊥
     none h = absurd cc
+
+-- ---- whole runs
+
+-- a script that is through
+pub run_done : (o : Opening) (views : List (Option PixelGrid)) (script : List Numbered) (r : Report) (last : Play) (tray tray' : TraySeen)
+    → IsScript script → IsLegal o r.journal.entries → Plays 0 (at_first o views script) r.journal.entries last → IsThrough last → last.refused ≡ r.refused
+    → r.images ≡ length last.written → (IsTrue tray.tells → Puts last.written tray.files tray'.files) → RunDone o views script r tray tray'
+run_done o views script r last tray tray' is legal plays through refused images puts =
+    let written : last.written ≡ reported o script r = files_are_writes o views script 0 r.journal.entries last is legal plays ∙ ap (writes o script r.journal.entries) refused in
+    record {
+      legal = legal;
+      follows = record { last = last; plays = plays; is_through = through; refused_are = refused };
+      images = images ∙ ap length written;
+      puts = λ t. subst (λ (ws : List Written). Puts ws tray.files tray'.files) written (puts t);
+    }
+
+-- a play behind which one command writes a file, whose write fails
+pub record IsCut (o : Opening) (views : List (Option PixelGrid)) (script : List Numbered) (r : Report) (tray tray' : TraySeen) : Type 0 where
+  pub before : List Numbered
+  pub cut : Numbered
+  pub left : List Numbered
+  pub script_is : script ≡ before ++ cut ∷ left
+  pub first : List Entry
+  pub second : List Entry
+  pub old : Play
+  pub new : Play
+  pub reaches : Plays 0 (at_first o views script) first old
+  pub commands : old.commands ≡ cut ∷ left
+  pub cuts : Plays 0 old second new
+  pub entries : r.journal.entries ≡ first ++ second
+  pub is_before : IsBefore left new
+  pub file : Written
+  pub names : file_of cut.command ≡ Some file.name
+  pub written : new.written ≡ old.written ++ file ∷ []
+  pub same : new.refused ≡ old.refused
+  pub refused : new.refused ≡ r.refused
+  pub images : r.images ≡ length old.written
+  pub mid : NamedFiles
+  pub puts : IsTrue tray.tells → Puts old.written tray.files mid
+  pub others : IsTrue tray.tells → OthersStay mid tray'.files file.name
+
+pub run_broken : (o : Opening) (views : List (Option PixelGrid)) (script : List Numbered) (image : ℕ) (r : Report) (tray tray' : TraySeen)
+    → IsScript script → IsLegal o r.journal.entries → image ≡ suc r.images → Rose tray.faults tray'.faults → IsCut o views script r tray tray'
+    → RunBroken o views script image r tray tray'
+run_broken o views script image r tray tray' is legal number fault k =
+    let plays = subst (λ (es : List Entry). Plays 0 (at_first o views script) es k.new) (sym k.entries) (joined k.second k.new k.reaches k.cuts) in
+    let written : k.new.written ≡ reported o script r = files_are_writes o views script 0 r.journal.entries k.new is legal plays ∙ ap (writes o script r.journal.entries) k.refused in
+    let all : k.old.written ++ k.file ∷ [] ≡ reported o script r = sym k.written ∙ written in
+    let count : length (k.old.written ++ k.file ∷ []) ≡ length k.old.written + 1 = length-append k.old.written (k.file ∷ []) in
+    record {
+      fault = fault;
+      legal = legal;
+      left = k.left;
+      follows = record {
+        last = k.new;
+        plays = plays;
+        is_before = k.is_before;
+        refused_are = k.refused;
+        before = k.before;
+        cut = k.cut;
+        script_is = k.script_is;
+        wrote = ap is_some (name_there r.refused k.cut k.file.name
+            (ap (λ (rs : List Refused). is_refused rs k.cut.line) (sym k.refused ∙ k.same) ∙ not_refused_yet o views script k.old k.cut k.left is k.reaches k.commands) k.names);
+      };
+      images = number;
+      last = sym (ap length all) ∙ count ∙ omega (arith, number, k.images);
+      breaks = λ t. subst (λ (n : ℕ). Breaks n (reported o script r) tray.files tray'.files) (sym k.images)
+          (subst (λ (ws : List Written). Breaks (length k.old.written) ws tray.files tray'.files) all
+              (broken_at k.old.written k.file tray.files k.mid tray'.files (k.puts t) (k.others t)));
+    }

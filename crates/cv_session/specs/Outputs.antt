@@ -20,7 +20,7 @@ use Rattle.cv_event.specs.States.{job_in}
 use Rattle.cv_script.specs.declared.script.Command.{Command}
 use Rattle.cv_session.specs.declared.outputs.Stop.{Stop}
 use Rattle.cv_session.specs.declared.outputs.Stop.TheVariants as stop
-use Rattle.cv_session.specs.Plays.{Written, picture_by}
+use Rattle.cv_session.specs.Plays.{Written, picture_by, file_of}
 use Rattle.cv_session.specs.Files.{Puts}
 use Rattle.cv_session.specs.Seats.{Seat, now, Enters, Refuses, Obeys}
 
@@ -65,7 +65,9 @@ pub record Done (old new : Seat) (line : ℕ) (c : Command) (n : ℕ) (tray tray
 -- a command is through but for its file, whose write failed
 pub record Broken (old new : Seat) (line : ℕ) (c : Command) (tray tray' : TraySeen) : Type 0 where
   pub file : Written
+  pub names : file_of c ≡ Some file.name
   pub obeys : Obeys old new line c (file ∷ [])
+  pub refused : new.refused ≡ old.refused
   pub fault : Rose tray.faults tray'.faults
   pub others : IsTrue tray.tells → OthersStay tray.files tray'.files file.name
 

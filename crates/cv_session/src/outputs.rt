@@ -55,7 +55,7 @@ impl Session {
     /// What the picture of a job's ready slots is composed of. Enters the preview.
     fn preview(&mut self, job: u32) -> Result<ComposeInput, PreviewError>
         requires { FitsOpening self.old.history.opening }
-        ensures { PreviewEnters self.old self.new job result }
+        ensures enters { PreviewEnters self.old self.new job result }
         ensures err { OnErr result (Stands self.old self.new) }
     {
         self.desk.known();
@@ -64,7 +64,7 @@ impl Session {
 
     /// The picture that a canvas has published. Enters that it was taken.
     fn published(&mut self, canvas: u32) -> Result<Shared<Composed>, SaveError>
-        ensures { SaveEnters self.old self.new canvas result }
+        ensures enters { SaveEnters self.old self.new canvas result }
         ensures err { OnErr result (Stands self.old self.new) }
     {
         self.desk.known();
@@ -105,10 +105,11 @@ impl Session {
             Err(PreviewError::UnknownJob) => unreachable!(),
             Err(PreviewError::NoMemory) => return Err(Stop::NoMemory),
         };
-        match composed_bytes(self.alloc, input) {
-            Ok(bytes) => put(tray, file, bytes.as_slice()),
-            Err(_) => Err(Stop::NoMemory),
-        }
+        let bytes = match composed_bytes(self.alloc, input) {
+            Ok(bytes) => bytes,
+            Err(_) => return Err(Stop::NoMemory),
+        };
+        put(tray, file, bytes.as_slice())
     }
 
     /// Plays `preview`. Answers how many files it wrote.
@@ -153,9 +154,10 @@ impl Session {
             Err(SaveError::Nothing) => return self.refuse_write(line, Reason::Nothing),
             Err(SaveError::NoMemory) => return Err(Stop::NoMemory),
         };
-        match cv_image::ppm(self.alloc, image.picture()) {
-            Ok(bytes) => put(tray, file, bytes.as_slice()),
-            Err(_) => Err(Stop::NoMemory),
-        }
+        let bytes = match cv_image::ppm(self.alloc, image.value().picture()) {
+            Ok(bytes) => bytes,
+            Err(_) => return Err(Stop::NoMemory),
+        };
+        put(tray, file, bytes.as_slice())
     }
 }
