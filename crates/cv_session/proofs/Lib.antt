@@ -11,4 +11,5 @@ pub mod CoverLemmas
 pub mod SeatLemmas
 pub mod MoveLemmas
 pub mod ObeyLemmas
+pub mod ViewLemmas
 pub mod WorkedOthers
