@@ -12,4 +12,5 @@ pub mod SeatLemmas
 pub mod MoveLemmas
 pub mod ObeyLemmas
 pub mod OutputLemmas
+pub mod ViewLemmas
 pub mod WorkedOthers

@@ -10,5 +10,6 @@ pub mod laws;
 mod outputs;
 mod report;
 mod seat;
+mod views;
 
 pub use report::{Report, SessionError};
