@@ -11,4 +11,6 @@ pub mod CoverLemmas
 pub mod SeatLemmas
 pub mod MoveLemmas
 pub mod ObeyLemmas
+pub mod TaskLemmas
+pub mod ServeLemmas
 pub mod WorkedOthers

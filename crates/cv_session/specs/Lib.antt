@@ -8,3 +8,4 @@ pub mod Laws
 pub mod HeldLaws
 pub mod Covered
 pub mod Seats
+pub mod Tasks

@@ -8,3 +8,4 @@
 pub mod laws;
 mod commands;
 mod seat;
+mod tasks;
