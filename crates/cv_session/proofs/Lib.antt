@@ -13,4 +13,5 @@ pub mod MoveLemmas
 pub mod ObeyLemmas
 pub mod TaskLemmas
 pub mod ServeLemmas
+pub mod WaitLemmas
 pub mod WorkedOthers
