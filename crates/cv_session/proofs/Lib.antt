@@ -13,4 +13,7 @@ pub mod MoveLemmas
 pub mod ObeyLemmas
 pub mod OutputLemmas
 pub mod ViewLemmas
+pub mod TaskLemmas
+pub mod ServeLemmas
+pub mod WaitLemmas
 pub mod WorkedOthers

@@ -8,6 +8,7 @@ pub mod Laws
 pub mod HeldLaws
 pub mod Covered
 pub mod Seats
+pub mod Tasks
 pub mod Files
 pub mod Outputs
 pub mod Reports

@@ -10,6 +10,7 @@ pub mod laws;
 mod outputs;
 mod report;
 mod seat;
+mod tasks;
 mod views;
 
 pub use report::{Report, SessionError};
