@@ -57,15 +57,7 @@ end_of (Lacking files text) = NoMemory
 end_of (Broken files) = WriteFault (Output (length files))
 end_of (Stopped script) = NoMemory
 
--- the files that it writes; a refusal writes none, and of a session that got no memory none are told
-abbrev pub files_of : Product → List Written
-files_of (Refused end) = []
-files_of (Made files text) = files
-files_of (Lacking files text) = files
-files_of (Broken files) = files
-files_of (Stopped script) = []
-
--- the text that it prints; a refusal prints none, nor does what was stopped
+-- the text that is printed; there is none of a refusal, and of what didn't come to its end
 abbrev pub text_of : Product → List ℕ
 text_of (Refused end) = []
 text_of (Made files text) = text

@@ -112,6 +112,12 @@ pub record IsAlone (rest : List (List ℕ)) (order : SessionParts) : Type 0 wher
   pub plain : list_all is_plain (order.project ∷ order.script ∷ []) ≡ true
   pub none : IsCount order.number 0
 
+-- two names and a number make a session where the number is 0
+pub record IsNamed (project script number : List ℕ) (order : SessionParts) : Type 0 where
+  pub is : order ≡ record { project = project; script = script; number = number }
+  pub plain : list_all is_plain (project ∷ script ∷ []) ≡ true
+  pub none : IsCount number 0
+
 -- the words are `session` and such words
 pub record IsSession (words : List (List ℕ)) (order : SessionParts) : Type 0 where
   pub rest : List (List ℕ)

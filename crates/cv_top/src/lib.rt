@@ -7,6 +7,7 @@
 //! Takes memory for what is read and painted; `run` takes a handle that may wait, and doesn't wait.
 #![tactic(auto)]
 
+mod alone;
 mod canvases;
 mod check;
 mod orders;
