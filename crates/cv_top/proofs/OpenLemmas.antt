@@ -10,7 +10,7 @@ use Rattle.cv_open.specs.declared.ends.Which.{Which}
 use Rattle.cv_open.specs.Readings.{Asked, FilesFound, Reading, Reads, only, LeadsTo, IsReadAs}
 use Rattle.cv_top.specs.declared.orders.Order.{Order}
 use Rattle.cv_outside.specs.Seen.{NamedFiles}
-use Rattle.cv_top.specs.Outcomes.{Product, Refused, Made, Lacking, Broken, Stopped, Outcome, text_of, product_from, outcome_from, IsOutcome}
+use Rattle.cv_top.specs.Outcomes.{Product, Refused, Made, Told, Broken, Stopped, Outcome, text_of, product_from, outcome_from, IsOutcome}
 use Rattle.cv_top.specs.Runs.{HasCause, Asks, Keeps, Prints, IsAskedAt, IsRunOf, IsWritten, Untouched}
 use Rattle.cv_top.proofs.RunLemmas.{more_causes, completes, asks_all}
 
@@ -59,7 +59,7 @@ quiet_from make quiet (Err end) = λ files. (0, λ q. refl)
 keeps_fault : (which : Which) (p : Product) (files : NamedFiles) → Keeps (ReadFault which) p files files
 keeps_fault which (Refused end) files = λ q. refl
 keeps_fault which (Made fs text) files = λ q. refl
-keeps_fault which (Lacking fs text) files = λ q. refl
+keeps_fault which (Told memory fs text) files = λ q. refl
 keeps_fault which (Broken fs) files = λ q. refl
 keeps_fault which (Stopped script) files = λ name other. refl
 

@@ -13,7 +13,7 @@ use Rattle.cv_open.specs.declared.ends.Which.{Which}
 use Rattle.cv_open.specs.declared.ends.Which.TheVariants.{Project, Layer, Script, Output, Text}
 use Rattle.cv_top.specs.declared.orders.Order.{Order}
 use Rattle.cv_top.specs.Words.{IsOrder}
-use Rattle.cv_top.specs.Outcomes.{Product, Refused, Made, Lacking, Broken, Stopped, Outcome, end_of, text_of}
+use Rattle.cv_top.specs.Outcomes.{Product, Refused, Made, Told, Broken, Stopped, Outcome, end_of, text_of}
 use Rattle.cv_open.specs.Readings.{Asked}
 use Rattle.cv_top.specs.Runs.{HasCause, IsOutput, HasText, IsBegun, Asks, Keeps, Prints, IsComplete, IsAskedAt, Untouched, Obeys, IsRun, IsRunOf, IsWritten, IsNoFault}
 
@@ -38,14 +38,14 @@ more_causes (WriteFault Script) p read miss write print h = h
 output_begun : (k : ℕ) (p : Product) → IsOutput k p → IsBegun p
 output_begun k (Refused end) h = absurd h
 output_begun k (Made files text) h = tt
-output_begun k (Lacking files text) h = tt
+output_begun k (Told memory files text) h = absurd h
 output_begun k (Broken files) h = tt
 output_begun k (Stopped script) h = tt
 
 text_begun : (p : Product) → HasText p → IsBegun p
 text_begun (Refused end) h = absurd h
 text_begun (Made files text) h = tt
-text_begun (Lacking files text) h = tt
+text_begun (Told memory files text) h = tt
 text_begun (Broken files) h = tt
 text_begun (Stopped script) h = tt
 

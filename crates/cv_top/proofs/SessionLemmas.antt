@@ -1,6 +1,7 @@
 -- A session that is played.
 use Rattle.std.proofs.Common.{◌≡◌, ℕ, zero, suc, ◌+◌, ◌-◌, ◌<◌, ◌≤◌, Bool, true, false, if◌then◌else◌, List, [], ◌∷◌, ◌++◌, map, length, take, Option, Some, Result, Ok, Err, IsTrue, refl, ap, sym, subst, append-nil, arith, ◌∙◌}
 use Rattle.std.proofs.Math.Seq.{take-length}
+use Rattle.std.proofs.Math.Nat.{min-le_left}
 use Rattle.std.specs.List.{list_all, All, AllByRecursion, AllZip}
 use Rattle.cv_outside.specs.Counts.{Rose}
 use Rattle.cv_outside.specs.Seen.{NamedFiles, ShelfSeen, TraySeen, SinkSeen, TrayStands}
@@ -26,13 +27,19 @@ use Rattle.cv_top.specs.declared.orders.Order.TheVariants.{Session}
 use Rattle.cv_top.specs.declared.stage.Staged.{Staged}
 use Rattle.cv_top.specs.Parts.{SessionParts}
 use Rattle.cv_top.specs.Sessions.{session_read, IsPlay}
-use Rattle.cv_top.specs.Outcomes.{Product, Refused, Made, Lacking, Broken, Stopped, Outcome, told, journal_made, text_of, outcome_from, IsPlayed, IsPlayedOf, IsOutcome}
-use Rattle.cv_top.specs.Runs.{Keeps, KeepsAll, KeepsFiles, Prints, IsWritten, IsPlayRun, IsRunOf, lacking}
-use Rattle.std.proofs.Common.{cond}
+use Rattle.cv_top.specs.Outcomes.{Product, Made, Told, Broken, Stopped, end_told, journal_made, outcome_from, IsPlayed, IsPlayedOf, IsOutcome}
+use Rattle.cv_top.specs.Runs.{IsWritten, IsPlayRun, IsRunOf, lacking}
+use Rattle.std.proofs.Common.{◌⊎◌, inl, inr, cond, zip, None, option_map, IfSome}
+use Rattle.std.proofs.lemmas.List.{length-map}
+use Rattle.std.proofs.lemmas.List.Elements.{recursion_from_All}
+use Rattle.std.proofs.lemmas.Slice.Zip.{length-zip}
+use Rattle.cv_model.specs.declared.project.LayerFile.{LayerFile}
+use Rattle.cv_model.specs.Positions.{Rectangle}
+use Rattle.cv_model.specs.Views.{grid_of}
 use Rattle.std.proofs.lemmas.Bool.{lt-ltb, le-ltb}
 use Rattle.cv_model.specs.declared.layer.LayerData.{LayerData}
 use Rattle.cv_model.specs.declared.project.CanvasFile.{CanvasFile}
-use Rattle.cv_model.specs.Openings.{CanOpen, canvas_of_file, first_view, opening_of}
+use Rattle.cv_model.specs.Openings.{CanOpen, canvas_of_file, layer_of_file, first_view, opening_of}
 use Rattle.cv_model.specs.ProjectFiles.{FileParts, IsCanvas}
 use Rattle.cv_script.specs.declared.error.ScriptError.{ScriptError}
 use Rattle.cv_script.specs.declared.error.ScriptError.TheVariants as script_error
@@ -46,11 +53,16 @@ use Rattle.cv_top.proofs.OpenLemmas.{IsQuiet}
 
 -- ---- the text
 
--- a session that is through, none of whose tasks wanted memory, ends as its text does, and one some of whose did
--- for want of memory; so far without files
+-- a session that is through ends as its text does, where none of its tasks wanted memory, and else for want of it; so far
+-- without files
+none_put : (n : ℕ) (old new : NamedFiles) → Puts (take n []) old new → Puts [] old new
+none_put zero old new h = h
+none_put (suc n) old new h = h
+
 pub text_told : (memory : Bool) (end : End) (text : List ℕ) (tray : TraySeen) (out out' : SinkSeen) → IsWritten end (Made [] text) tray tray out out'
-    → IsWritten (if memory then end else lacking end) (told memory text) tray tray out out'
-text_told true end text tray out out' w = w
+    → IsWritten (if memory then end else lacking end) (Told memory [] text) tray tray out out'
+text_told true Done text tray out out' w =
+    record { cause = refl; outputs = w.outputs; text = w.text; tray_stands = w.tray_stands; out_stands = w.out_stands }
 text_told false Done text tray out out' w = record {
   cause = tt;
   outputs = w.outputs;
@@ -58,108 +70,83 @@ text_told false Done text tray out out' w = record {
   tray_stands = w.tray_stands;
   out_stands = w.out_stands;
 }
-text_told false NoMemory text tray out out' w = record {
-  cause = tt;
-  outputs = λ t. none ((w.outputs t).0) ((w.outputs t).1);
-  text = w.text;
-  tray_stands = w.tray_stands;
-  out_stands = w.out_stands;
-}
+text_told memory NoMemory text tray out out' w = by memory
   where
-    none : (n : ℕ) {old new : NamedFiles} → Puts (take n []) old new → Puts [] old new
-    none zero h = h
-    none (suc n) h = h
-text_told false (WriteFault Text) text tray out out' w = record {
-  cause = w.cause;
-  outputs = w.outputs;
-  text = w.text;
-  tray_stands = w.tray_stands;
-  out_stands = w.out_stands;
-}
-text_told false Usage text tray out out' w = absurd w.cause
-text_told false (BadProject error) text tray out out' w = absurd (other w.cause)
+    kept : IsWritten NoMemory (Told memory [] text) tray tray out out'
+    kept = record {
+      cause = tt;
+      outputs = λ t. none_put (w.outputs t).0 tray.files tray.files (w.outputs t).1;
+      text = w.text;
+      tray_stands = w.tray_stands;
+      out_stands = w.out_stands;
+    }
+    by : (b : Bool) → IsWritten (if b then NoMemory else lacking NoMemory) (Told memory [] text) tray tray out out'
+    by true = kept
+    by false = kept
+text_told memory (WriteFault Text) text tray out out' w = by memory
+  where
+    kept : IsWritten (WriteFault Text) (Told memory [] text) tray tray out out'
+    kept = record { cause = w.cause; outputs = w.outputs; text = w.text; tray_stands = w.tray_stands; out_stands = w.out_stands }
+    by : (b : Bool) → IsWritten (if b then WriteFault Text else lacking (WriteFault Text)) (Told memory [] text) tray tray out out'
+    by true = kept
+    by false = kept
+text_told memory Usage text tray out out' w = absurd w.cause
+text_told memory (BadProject error) text tray out out' w = absurd (other w.cause)
   where
     other : Done ≡ BadProject error → ⊥
     other e = absurd cc
-text_told false (BadData place error) text tray out out' w = absurd (other w.cause)
+text_told memory (BadData place error) text tray out out' w = absurd (other w.cause)
   where
     other : Done ≡ BadData place error → ⊥
     other e = absurd cc
-text_told false (BadScript line) text tray out out' w = absurd (other w.cause)
+text_told memory (BadScript line) text tray out out' w = absurd (other w.cause)
   where
     other : Done ≡ BadScript line → ⊥
     other e = absurd cc
-text_told false (Missing which) text tray out out' w = absurd w.cause.1
-text_told false (ReadFault which) text tray out out' w = absurd w.cause
-text_told false (WriteFault (Output k)) text tray out out' w = absurd (omega (arith, w.cause.0.0, w.cause.0.1))
-text_told false (WriteFault Project) text tray out out' w = absurd w.cause
-text_told false (WriteFault (Layer place)) text tray out out' w = absurd w.cause
-text_told false (WriteFault Script) text tray out out' w = absurd w.cause
+text_told memory (Missing which) text tray out out' w = absurd w.cause.1
+text_told memory (ReadFault which) text tray out out' w = absurd w.cause
+text_told memory (WriteFault (Output k)) text tray out out' w = absurd (omega (arith, w.cause.0.0, w.cause.0.1))
+text_told memory (WriteFault Project) text tray out out' w = absurd w.cause
+text_told memory (WriteFault (Layer place)) text tray out out' w = absurd w.cause
+text_told memory (WriteFault Script) text tray out out' w = absurd w.cause
 
 -- ---- with the files before it
 
-with_files : (end : End) (files : List Written) (text : List ℕ) (tray tray' : TraySeen) (out out' : SinkSeen) → TrayStands tray tray'
-    → (IsTrue tray.tells → Puts files tray.files tray'.files) → IsWritten end (Made [] text) tray' tray' out out' → IsWritten end (Made files text) tray tray' out out'
-with_files Done files text tray tray' out out' stands puts w =
-    record { cause = refl; outputs = puts; text = w.text; tray_stands = stands; out_stands = w.out_stands }
-with_files NoMemory files text tray tray' out out' stands puts w = record {
-  cause = tt;
-  outputs = λ t. (length files, subst (λ (ws : List Written). Puts ws tray.files tray'.files) (sym (take-length files)) (puts t));
-  text = w.text;
-  tray_stands = stands;
-  out_stands = w.out_stands;
-}
-with_files (WriteFault Text) files text tray tray' out out' stands puts w =
-    record { cause = w.cause; outputs = puts; text = w.text; tray_stands = stands; out_stands = w.out_stands }
-with_files Usage files text tray tray' out out' stands puts w = absurd w.cause
-with_files (BadProject error) files text tray tray' out out' stands puts w = absurd (other w.cause)
-  where
-    other : Done ≡ BadProject error → ⊥
-    other e = absurd cc
-with_files (BadData place error) files text tray tray' out out' stands puts w = absurd (other w.cause)
-  where
-    other : Done ≡ BadData place error → ⊥
-    other e = absurd cc
-with_files (BadScript line) files text tray tray' out out' stands puts w = absurd (other w.cause)
-  where
-    other : Done ≡ BadScript line → ⊥
-    other e = absurd cc
-with_files (Missing which) files text tray tray' out out' stands puts w = absurd w.cause.1
-with_files (ReadFault which) files text tray tray' out out' stands puts w = absurd w.cause
-with_files (WriteFault (Output k)) files text tray tray' out out' stands puts w = absurd (omega (arith, w.cause.0.0, w.cause.0.1))
-with_files (WriteFault Project) files text tray tray' out out' stands puts w = absurd w.cause
-with_files (WriteFault (Layer place)) files text tray tray' out out' stands puts w = absurd w.cause
-with_files (WriteFault Script) files text tray tray' out out' stands puts w = absurd w.cause
+-- a session that is through ends in no other way
+ends_told : (memory : Bool) (end : End) → end_told memory ≡ end → (end ≡ Done) ⊎ (end ≡ NoMemory)
+ends_told true end e = inl (sym e)
+ends_told false end e = inr (sym e)
 
-with_all : (end : End) (files : List Written) (text : List ℕ) (tray tray' : TraySeen) (out out' : SinkSeen) → TrayStands tray tray'
-    → (IsTrue tray.tells → Puts files tray.files tray'.files) → IsWritten end (Lacking [] text) tray' tray' out out' → IsWritten end (Lacking files text) tray tray' out out'
-with_all Done files text tray tray' out out' stands puts w = absurd (other w.cause)
-  where
-    other : NoMemory ≡ Done → ⊥
-    other e = absurd cc
-with_all NoMemory files text tray tray' out out' stands puts w =
-    record { cause = tt; outputs = puts; text = w.text; tray_stands = stands; out_stands = w.out_stands }
-with_all (WriteFault Text) files text tray tray' out out' stands puts w =
+with_files : (memory : Bool) (end : End) (files : List Written) (text : List ℕ) (tray tray' : TraySeen) (out out' : SinkSeen) → TrayStands tray tray'
+    → (IsTrue tray.tells → Puts files tray.files tray'.files) → IsWritten end (Told memory [] text) tray' tray' out out' → IsWritten end (Told memory files text) tray tray' out out'
+with_files memory Done files text tray tray' out out' stands puts w =
     record { cause = w.cause; outputs = puts; text = w.text; tray_stands = stands; out_stands = w.out_stands }
-with_all Usage files text tray tray' out out' stands puts w = absurd w.cause
-with_all (BadProject error) files text tray tray' out out' stands puts w = absurd (other w.cause)
+with_files memory NoMemory files text tray tray' out out' stands puts w =
+    record { cause = tt; outputs = puts; text = w.text; tray_stands = stands; out_stands = w.out_stands }
+with_files memory (WriteFault Text) files text tray tray' out out' stands puts w =
+    record { cause = w.cause; outputs = puts; text = w.text; tray_stands = stands; out_stands = w.out_stands }
+with_files memory Usage files text tray tray' out out' stands puts w = absurd w.cause
+with_files memory (BadProject error) files text tray tray' out out' stands puts w = absurd (other (ends_told memory (BadProject error) w.cause))
   where
-    other : NoMemory ≡ BadProject error → ⊥
-    other e = absurd cc
-with_all (BadData place error) files text tray tray' out out' stands puts w = absurd (other w.cause)
+    other : (BadProject error ≡ Done) ⊎ (BadProject error ≡ NoMemory) → ⊥
+    other (inl e) = absurd cc
+    other (inr e) = absurd cc
+with_files memory (BadData place error) files text tray tray' out out' stands puts w = absurd (other (ends_told memory (BadData place error) w.cause))
   where
-    other : NoMemory ≡ BadData place error → ⊥
-    other e = absurd cc
-with_all (BadScript line) files text tray tray' out out' stands puts w = absurd (other w.cause)
+    other : (BadData place error ≡ Done) ⊎ (BadData place error ≡ NoMemory) → ⊥
+    other (inl e) = absurd cc
+    other (inr e) = absurd cc
+with_files memory (BadScript line) files text tray tray' out out' stands puts w = absurd (other (ends_told memory (BadScript line) w.cause))
   where
-    other : NoMemory ≡ BadScript line → ⊥
-    other e = absurd cc
-with_all (Missing which) files text tray tray' out out' stands puts w = absurd w.cause.1
-with_all (ReadFault which) files text tray tray' out out' stands puts w = absurd w.cause
-with_all (WriteFault (Output k)) files text tray tray' out out' stands puts w = absurd w.cause.0
-with_all (WriteFault Project) files text tray tray' out out' stands puts w = absurd w.cause
-with_all (WriteFault (Layer place)) files text tray tray' out out' stands puts w = absurd w.cause
-with_all (WriteFault Script) files text tray tray' out out' stands puts w = absurd w.cause
+    other : (BadScript line ≡ Done) ⊎ (BadScript line ≡ NoMemory) → ⊥
+    other (inl e) = absurd cc
+    other (inr e) = absurd cc
+with_files memory (Missing which) files text tray tray' out out' stands puts w = absurd w.cause.1
+with_files memory (ReadFault which) files text tray tray' out out' stands puts w = absurd w.cause
+with_files memory (WriteFault (Output k)) files text tray tray' out out' stands puts w = absurd w.cause.0
+with_files memory (WriteFault Project) files text tray tray' out out' stands puts w = absurd w.cause
+with_files memory (WriteFault (Layer place)) files text tray tray' out out' stands puts w = absurd w.cause
+with_files memory (WriteFault Script) files text tray tray' out out' stands puts w = absurd w.cause
 
 -- ---- what a session comes to
 
@@ -182,11 +169,11 @@ done_played s r end tray tray' out out' stands run w = by_memory (list_all (λ (
       text_is = ap (journal_text r.journal.entries r.refused) run.images;
       holds = holds;
     }
-    by_memory : (memory : Bool) → list_all (λ (entry : Entry). is_no_fail entry.act) r.journal.entries ≡ memory → IsWritten end (told memory text) tray' tray' out out'
+    by_memory : (memory : Bool) → list_all (λ (entry : Entry). is_no_fail entry.act) r.journal.entries ≡ memory → IsWritten end (Told memory [] text) tray' tray' out out'
         → IsPlayRun s end tray tray' out out'
-    by_memory true e w = (Made files text, play HasMemory e, with_files end files text tray tray' out out' stands run.puts w)
+    by_memory true e w = (Told true files text, play HasMemory e, with_files true end files text tray tray' out out' stands run.puts w)
     by_memory false e w =
-        (Lacking files text, play (λ journal. HasMemory journal → ⊥) (λ h. absurd (none (sym e ∙ h))), with_all end files text tray tray' out out' stands run.puts w)
+        (Told false files text, play (λ journal. HasMemory journal → ⊥) (λ h. absurd (none (sym e ∙ h))), with_files false end files text tray tray' out out' stands run.puts w)
       where
         none : false ≡ true → ⊥
         none h = absurd cc
@@ -269,19 +256,22 @@ played_run order shelf shelf' tray tray' out out' s end l run =
 
 -- ---- the script
 
-pub script_read_ok : (bytes : List ℕ) (s : List Numbered) → ((Ok s ≡ Err script_error.NoMemory → ⊥) → Ok s ≡ script_of bytes) → IsSaid (as_script (script_of bytes)) (Ok s)
+-- the bytes of a script give this
+abbrev pub Gives : List ℕ → Result (List Numbered) ScriptError → Type 0
+Gives bytes r = (r ≡ Err script_error.NoMemory → ⊥) → r ≡ script_of bytes
+
+pub script_read_ok : (bytes : List ℕ) (s : List Numbered) → Gives bytes (Ok s) → IsSaid (as_script (script_of bytes)) (Ok s)
 script_read_ok bytes s h shelf =
     subst (λ (r : Result (List Numbered) ScriptError). LeadsTo (only (as_script r)) (only (Ok s)) shelf shelf) (h other) (stays (only (Ok s)) shelf)
   where
-    other : Ok {E = ScriptError} s ≡ Err script_error.NoMemory → ⊥
+    other : ◌≡◌ {A = Result (List Numbered) ScriptError} (Ok s) (Err script_error.NoMemory) → ⊥
     other e = absurd cc
 
-pub script_refused : (bytes : List ℕ) (line : ℕ) → ((Err (script_error.BadLine line) ≡ Err script_error.NoMemory → ⊥) → Err (script_error.BadLine line) ≡ script_of bytes)
-    → IsSaid (as_script (script_of bytes)) (Err (BadScript line))
+pub script_refused : (bytes : List ℕ) (line : ℕ) → Gives bytes (Err (script_error.BadLine line)) → IsSaid (as_script (script_of bytes)) (Err (BadScript line))
 script_refused bytes line h shelf =
     subst (λ (r : Result (List Numbered) ScriptError). LeadsTo (only (as_script r)) (only (Err (BadScript line))) shelf shelf) (h other) (stays (only (Err (BadScript line))) shelf)
   where
-    other : Err {T = List Numbered} (script_error.BadLine line) ≡ Err script_error.NoMemory → ⊥
+    other : ◌≡◌ {A = Result (List Numbered) ScriptError} (Err (script_error.BadLine line)) (Err script_error.NoMemory) → ⊥
     other e = absurd cc
 
 short_script : (bytes : List ℕ) → length bytes ≤ most_script → script_said bytes ≡ as_script (script_of bytes)
@@ -303,18 +293,31 @@ script_long bytes long shelf =
 
 -- ---- the canvases
 
-pub sizes_fit : (canvases : List CanvasFile) → All IsCanvas canvases → AllByRecursion FitsSpec (map canvas_of_file canvases)
+sizes_fit : (canvases : List CanvasFile) → AllByRecursion IsCanvas canvases → AllByRecursion FitsSpec (map canvas_of_file canvases)
 sizes_fit [] f = tt
-sizes_fit (c ∷ cs) f = ?
+sizes_fit (c ∷ cs) f =
+    let w = f.0.size.most_wide in
+    let h = f.0.size.most_high in
+    ((omega (arith, w), omega (arith, h)), sizes_fit cs f.1)
 
 pub first_fit : (canvases : List CanvasFile) → AreFirst (map canvas_of_file canvases) (map first_view canvases)
-first_fit [] = ?
-first_fit (c ∷ cs) = ?
+first_fit [] = tt
+first_fit (c ∷ cs) = (by_extent c.extent, first_fit cs)
+  where
+    by_extent : (o : Option Rectangle) → IfSome (option_map (λ extent. grid_of extent c.width c.height) o) (λ v. (v.w ≡ c.width) × (v.h ≡ c.height))
+    by_extent None = tt
+    by_extent (Some extent) = (refl, refl)
 
 -- what a project's file opens has numbers of their types
 pub opening_fits : (file : FileParts) (contents : List LayerData) → CanOpen file contents → FitsOpening (opening_of file contents)
-opening_fits file contents can = record {
-  layers = ?;
-  count = ?;
-  sizes = sizes_fit file.canvases can.form.canvases;
-}
+opening_fits file contents can =
+    let layers = length-map (zip file.layers contents) (λ (row : LayerFile × LayerData). layer_of_file row.0 row.1) in
+    let zipped = length-zip file.layers contents in
+    let few = min-le_left (length file.layers) (length contents) in
+    let canvases = length-map file.canvases canvas_of_file in
+    let four = can.form.few_canvases in
+    let most = can.form.few_layers in record {
+      layers = omega (arith, layers, zipped, few, most);
+      count = omega (arith, canvases, four);
+      sizes = sizes_fit file.canvases (recursion_from_All IsCanvas file.canvases can.form.canvases);
+    }

@@ -16,7 +16,8 @@ use Rattle.std.specs.Result.{result_ok}
 use Rattle.std.proofs.lemmas.Option.{same_Some}
 use Rattle.cv_geom.specs.declared.views.ViewError.{ViewError}
 use Rattle.cv_model.specs.declared.colour.Rgb.{Rgb}
-use Rattle.std.proofs.Common.{◌++◌, inl, inr}
+use Rattle.std.proofs.Common.{◌++◌, ◌-◌, suc, take, inl, inr}
+use Rattle.std.proofs.Math.Seq.{take-length}
 use Rattle.std.specs.List.{list_all}
 use Rattle.cv_words.specs.Plain.{is_plain}
 use Rattle.cv_top.specs.Parts.{QuickParts, SessionParts}
@@ -152,6 +153,13 @@ pub four_items : (ws : List (List ℕ)) (a b c d : List ℕ) → length ws ≡ 4
 four_items ws a b c d n pa pb pc pd =
     item ws 0 a (omega arith) pa ∙ ap (λ t. a ∷ t) (item ws 1 b (omega arith) pb ∙ ap (λ t. b ∷ t) (item ws 2 c (omega arith) pc
     ∙ ap (λ t. c ∷ t) (item ws 3 d (omega arith) pd ∙ ap (λ t. d ∷ t) (drop_all 4 ws (omega arith)))))
+
+-- what stands behind the first word
+pub behind_first : (words : List (List ℕ)) (w : List ℕ) (rest : List (List ℕ)) → words ≡ w ∷ rest → rest ≡ take (length words - 1) (drop 1 words)
+behind_first words w rest e =
+    let n : length (w ∷ rest) ≡ suc (length rest) = refl in
+    let m : length rest ≡ length words - 1 = let l = ap length e in omega (arith, l, n) in
+    sym (take-length rest) ∙ ap (λ (k : ℕ). take k rest) m ∙ ap (λ (ws : List (List ℕ)). take (length words - 1) (drop 1 ws)) (sym e)
 
 -- ---- a session
 

@@ -37,8 +37,8 @@ pub data Product : Type 0 where
   Refused : End → Product
   -- files, first to last, and a text
   Made : List Written → List ℕ → Product
-  -- files and a text of a session, a task of which got no memory
-  Lacking : List Written → List ℕ → Product
+  -- files and a text of a session that is through; whether none of its tasks wanted memory
+  Told : Bool → List Written → List ℕ → Product
   -- files of a session, the last of which couldn't be written
   Broken : List Written → Product
   -- a session of this script that got no memory
@@ -49,11 +49,16 @@ pub record Outcome : Type 0 where
   pub asked : List Asked
   pub product : Product
 
+-- the end of a session that is through
+abbrev pub end_told : Bool → End
+end_told true = Done
+end_told false = NoMemory
+
 -- the end of a run that gives this
 abbrev pub end_of : Product → End
 end_of (Refused end) = end
 end_of (Made files text) = Done
-end_of (Lacking files text) = NoMemory
+end_of (Told memory files text) = end_told memory
 end_of (Broken files) = WriteFault (Output (length files))
 end_of (Stopped script) = NoMemory
 
@@ -61,7 +66,7 @@ end_of (Stopped script) = NoMemory
 abbrev pub text_of : Product → List ℕ
 text_of (Refused end) = []
 text_of (Made files text) = text
-text_of (Lacking files text) = text
+text_of (Told memory files text) = text
 text_of (Broken files) = []
 text_of (Stopped script) = []
 
@@ -98,15 +103,10 @@ painted order shown = picture_made order.out (opening_in shown.opened).project s
 abbrev pub checked : Opened → Product
 checked opened = Made [] (report_of opened)
 
--- a text, where a task got no memory or none did
-abbrev pub told : Bool → List ℕ → Product
-told true text = Made [] text
-told false text = Lacking [] text
-
 -- what is printed of a session that is through
 abbrev pub journal_made : Report → Product
 journal_made r =
-    told (list_all (λ (entry : Entry). is_no_fail entry.act) r.journal.entries)
+    Told (list_all (λ (entry : Entry). is_no_fail entry.act) r.journal.entries) []
     (journal_text r.journal.entries r.refused r.images)
 
 -- what a session makes of a project and a script: a legal history that follows the script, whose journal is
@@ -114,8 +114,9 @@ journal_made r =
 -- script that is cut; or nothing is said
 abbrev pub IsPlayed : Staged → Product → Type 0
 IsPlayed s (Refused end) = ⊥
-IsPlayed s (Made files text) = IsPlay s files text HasMemory
-IsPlayed s (Lacking files text) = IsPlay s files text (λ journal. HasMemory journal → ⊥)
+IsPlayed s (Made files text) = ⊥
+IsPlayed s (Told true files text) = IsPlay s files text HasMemory
+IsPlayed s (Told false files text) = IsPlay s files text (λ journal. HasMemory journal → ⊥)
 IsPlayed s (Broken files) = IsCut s files
 IsPlayed s (Stopped script) = script ≡ s.script
 

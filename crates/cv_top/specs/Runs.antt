@@ -18,7 +18,7 @@ use Rattle.cv_session.specs.Plays.{Written}
 use Rattle.cv_top.specs.declared.orders.Order.{Order}
 use Rattle.cv_top.specs.declared.stage.Staged.{Staged}
 use Rattle.cv_open.specs.Readings.{Asked, FilesFound, AreOf}
-use Rattle.cv_top.specs.Outcomes.{Product, Refused, Made, Lacking, Broken, Stopped, Outcome, IsOutcome, IsPlayed}
+use Rattle.cv_top.specs.Outcomes.{Product, Refused, Made, Told, Broken, Stopped, Outcome, IsOutcome, IsPlayed}
 use Rattle.cv_top.specs.Outcomes.{end_of, text_of}
 use Rattle.cv_top.specs.Words.{IsOrder, IsNoForm}
 
@@ -30,7 +30,7 @@ IsAskedAt n which asked = option_map (λ a. a.which) (slice_get asked n) ≡ Som
 abbrev pub IsOutput : ℕ → Product → Type 0
 IsOutput k (Refused end) = ⊥
 IsOutput k (Made files text) = (1 ≤ k) × (k ≤ length files)
-IsOutput k (Lacking files text) = ⊥
+IsOutput k (Told memory files text) = ⊥
 IsOutput k (Broken files) = (1 ≤ k) × (k ≡ length files)
 IsOutput k (Stopped script) = ⊥
 
@@ -38,7 +38,7 @@ IsOutput k (Stopped script) = ⊥
 abbrev pub HasText : Product → Type 0
 HasText (Refused end) = ⊥
 HasText (Made files text) = Unit {0}
-HasText (Lacking files text) = Unit {0}
+HasText (Told memory files text) = Unit {0}
 HasText (Broken files) = ⊥
 HasText (Stopped script) = ⊥
 
@@ -101,12 +101,12 @@ abbrev pub KeepsAll : End → List Written → (old new : NamedFiles) → Type 0
 KeepsAll NoMemory files old new = Puts files old new
 KeepsAll end files old new = KeepsFiles end files old new
 
--- the tray's files by what was to be made; of a session that got no memory those that its script doesn't name
--- are as before
+-- the tray's files by what was to be made: of a session that is through all, whatever became of its text; of one
+-- that got no memory those that its script doesn't name are as before
 abbrev pub Keeps : End → Product → (old new : NamedFiles) → Type 0
 Keeps end (Refused refusal) old new = KeepsFiles end [] old new
 Keeps end (Made files text) old new = KeepsFiles end files old new
-Keeps end (Lacking files text) old new = KeepsAll end files old new
+Keeps end (Told memory files text) old new = KeepsAll end files old new
 Keeps end (Broken files) old new = KeepsFiles end files old new
 Keeps end (Stopped script) old new = Spares script old new
 
