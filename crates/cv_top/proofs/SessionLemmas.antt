@@ -9,7 +9,8 @@ use Rattle.cv_outside.proofs.SeenLemmas.{sink_stays}
 use Rattle.cv_event.specs.declared.entry.Entry.{Entry}
 use Rattle.cv_event.specs.Lines.{journal_text}
 use Rattle.cv_event.specs.TextLaws.{FitsSpec, FitsOpening}
-use Rattle.cv_model.specs.Layers.{Opening}
+use Rattle.cv_model.specs.Layers.{Project}
+use Rattle.cv_model.specs.declared.project.CanvasSpec.{CanvasSpec}
 use Rattle.cv_model.specs.Views.{PixelGrid}
 use Rattle.cv_script.specs.declared.script.Numbered.{Numbered}
 use Rattle.cv_session.specs.declared.report.Report.{Report}
@@ -19,7 +20,8 @@ use Rattle.cv_session.specs.Plays.{Written}
 use Rattle.cv_session.specs.Reports.{reported, RunDone, RunBroken}
 use Rattle.cv_open.specs.declared.ends.End.{End}
 use Rattle.cv_open.specs.declared.ends.End.TheVariants.{Done, NoMemory, Usage, BadProject, BadData, BadScript, ReadFault, WriteFault, Missing}
-use Rattle.cv_open.specs.declared.ends.Which.TheVariants.{Project, Layer, Script, Output, Text}
+use Rattle.cv_open.specs.declared.ends.Which.TheVariants.{Layer, Script, Output, Text}
+use Rattle.cv_open.specs.declared.ends.Which.TheVariants as which_file
 use Rattle.cv_open.specs.Opened.{opening_in, views_in}
 use Rattle.cv_open.specs.Readings.{Asked, FilesFound, Reading, Reads, only, LeadsTo}
 use Rattle.cv_top.specs.declared.orders.Order.{Order}
@@ -27,8 +29,8 @@ use Rattle.cv_top.specs.declared.orders.Order.TheVariants.{Session}
 use Rattle.cv_top.specs.declared.stage.Staged.{Staged}
 use Rattle.cv_top.specs.Parts.{SessionParts}
 use Rattle.cv_top.specs.Sessions.{session_read, IsPlay}
-use Rattle.cv_top.specs.Outcomes.{Product, Made, Told, Broken, Stopped, end_told, journal_made, outcome_from, IsPlayed, IsPlayedOf, IsOutcome}
-use Rattle.cv_top.specs.Runs.{IsWritten, IsPlayRun, IsRunOf, lacking}
+use Rattle.cv_top.specs.Outcomes.{Product, Made, Told, Broken, Stopped, end_told, error_end, journal_made, outcome_from, IsPlayed, IsPlayedOf, IsOutcome}
+use Rattle.cv_top.specs.Runs.{Untouched, IsWritten, IsPlayRun, IsRunOf, lacking}
 use Rattle.std.proofs.Common.{◌⊎◌, inl, inr, cond, zip, None, option_map, IfSome}
 use Rattle.std.proofs.lemmas.List.{length-map}
 use Rattle.std.proofs.lemmas.List.Elements.{recursion_from_All}
@@ -44,7 +46,9 @@ use Rattle.cv_model.specs.ProjectFiles.{FileParts, IsCanvas}
 use Rattle.cv_script.specs.declared.error.ScriptError.{ScriptError}
 use Rattle.cv_script.specs.declared.error.ScriptError.TheVariants as script_error
 use Rattle.cv_script.specs.Scripts.{script_of}
-use Rattle.cv_session.specs.Reports.{AreFirst}
+use Rattle.cv_session.specs.Reports.{AreFirst, RunEnds}
+use Rattle.cv_session.specs.declared.report.SessionError.{SessionError}
+use Rattle.cv_session.specs.declared.report.SessionError.TheVariants as session_error
 use Rattle.cv_open.specs.Readings.{IsSaid}
 use Rattle.cv_open.proofs.ReadingLemmas.{stays}
 use Rattle.cv_top.specs.Sessions.{most_script, as_script, script_said}
@@ -106,7 +110,7 @@ text_told memory (BadScript line) text tray out out' w = absurd (other w.cause)
 text_told memory (Missing which) text tray out out' w = absurd w.cause.1
 text_told memory (ReadFault which) text tray out out' w = absurd w.cause
 text_told memory (WriteFault (Output k)) text tray out out' w = absurd (omega (arith, w.cause.0.0, w.cause.0.1))
-text_told memory (WriteFault Project) text tray out out' w = absurd w.cause
+text_told memory (WriteFault which_file.Project) text tray out out' w = absurd w.cause
 text_told memory (WriteFault (Layer place)) text tray out out' w = absurd w.cause
 text_told memory (WriteFault Script) text tray out out' w = absurd w.cause
 
@@ -144,7 +148,7 @@ with_files memory (BadScript line) files text tray tray' out out' stands puts w 
 with_files memory (Missing which) files text tray tray' out out' stands puts w = absurd w.cause.1
 with_files memory (ReadFault which) files text tray tray' out out' stands puts w = absurd w.cause
 with_files memory (WriteFault (Output k)) files text tray tray' out out' stands puts w = absurd w.cause.0
-with_files memory (WriteFault Project) files text tray tray' out out' stands puts w = absurd w.cause
+with_files memory (WriteFault which_file.Project) files text tray tray' out out' stands puts w = absurd w.cause
 with_files memory (WriteFault (Layer place)) files text tray tray' out out' stands puts w = absurd w.cause
 with_files memory (WriteFault Script) files text tray tray' out out' stands puts w = absurd w.cause
 
@@ -216,6 +220,20 @@ stopped_played s tray tray' out stands spares = (
     out_stands = sink_stays out;
   },
 )
+
+-- one that stopped
+pub error_played : (s : Staged) (error : SessionError) (tray tray' : TraySeen) (out : SinkSeen) → TrayStands tray tray'
+    → RunEnds (opening_in s.opened) (views_in s.opened) s.script (Err error) tray tray' → (IsTrue tray.tells → Spares s.script tray.files tray'.files)
+    → IsPlayRun s (error_end error) tray tray' out out
+error_played s (session_error.Tray image r) tray tray' out stands run spares = broken_played s image r tray tray' out stands run
+error_played s session_error.NoMemory tray tray' out stands run spares = stopped_played s tray tray' out stands spares
+
+pub error_untouched : (end : End) (error : SessionError) (out : Type 0) → end ≡ error_end error → out → Untouched end ⊥ ⊥ out
+error_untouched end error out is same = subst (λ (e : End). Untouched e ⊥ ⊥ out) (sym is) (by error)
+  where
+    by : (error : SessionError) → Untouched (error_end error) ⊥ ⊥ out
+    by (session_error.Tray image r) = same
+    by session_error.NoMemory = tt
 
 -- ---- with the reads before it
 
@@ -321,3 +339,13 @@ opening_fits file contents can =
       count = omega (arith, canvases, four);
       sizes = sizes_fit file.canvases (recursion_from_All IsCanvas file.canvases can.form.canvases);
     }
+
+pub opening_runs : (file : FileParts) (contents : List LayerData) (project : Project) (specs : List CanvasSpec) → CanOpen file contents
+    → project ≡ (opening_of file contents).project → specs ≡ map canvas_of_file file.canvases → FitsOpening (record { project = project; canvases = specs })
+opening_runs file contents project specs can p s =
+    subst FitsOpening (λ i. record { project = sym p i; canvases = sym s i }) (opening_fits file contents can)
+
+pub views_run : (canvases : List CanvasFile) (specs : List CanvasSpec) (views : List (Option PixelGrid)) → specs ≡ map canvas_of_file canvases → views ≡ map first_view canvases
+    → AreFirst specs views
+views_run canvases specs views s v =
+    subst (λ (l : List CanvasSpec). AreFirst l views) (sym s) (subst (λ (l : List (Option PixelGrid)). AreFirst (map canvas_of_file canvases) l) (sym v) (first_fit canvases))

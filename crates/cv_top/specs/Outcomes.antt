@@ -15,6 +15,9 @@ use Rattle.cv_event.specs.declared.entry.Entry.{Entry}
 use Rattle.cv_event.specs.Lines.{journal_text}
 use Rattle.cv_session.specs.Laws.{is_no_fail, HasMemory}
 use Rattle.cv_session.specs.declared.report.Report.{Report}
+use Rattle.cv_session.specs.declared.report.SessionError.{SessionError}
+use Rattle.cv_session.specs.declared.report.SessionError.TheVariants.{Tray}
+use Rattle.cv_session.specs.declared.report.SessionError.TheVariants as session_error
 use Rattle.cv_session.specs.Plays.{Written}
 use Rattle.cv_top.specs.declared.orders.Order.{Order}
 use Rattle.cv_top.specs.declared.orders.Order.TheVariants.{Quick, Check, Paint, Session}
@@ -102,6 +105,11 @@ painted order shown = picture_made order.out (opening_in shown.opened).project s
 -- `check` prints the report on what was opened
 abbrev pub checked : Opened → Product
 checked opened = Made [] (report_of opened)
+
+-- the end of a session that stopped
+abbrev pub error_end : SessionError → End
+error_end (Tray image r) = WriteFault (Output image)
+error_end session_error.NoMemory = NoMemory
 
 -- what is printed of a session that is through
 abbrev pub journal_made : Report → Product

@@ -10,19 +10,19 @@ ghost use Rattle.cv_script.specs.Scripts.{IsScript};
 ghost use Rattle.cv_session.specs.Files.{Spares};
 ghost use Rattle.cv_session.specs.Laws.{is_no_fail};
 ghost use Rattle.cv_session.specs.Reports.{RunEnds};
-ghost use Rattle.cv_top.specs.Outcomes.{journal_made};
+ghost use Rattle.cv_top.specs.Outcomes.{error_end, journal_made};
 ghost use Rattle.cv_top.specs.Runs.{Untouched, IsWritten, IsPlayRun, Obeys, lacking};
 ghost use Rattle.cv_top.specs.Words.{IsPlainOrder};
 
 use crate::canvases::{first_views, specs_of};
 use crate::orders::{Order, SessionOrder};
 use crate::outputs::write_text;
+use crate::paint::store_of;
 use crate::stage::{Staged, stage};
 use cv_event::{Act, Entry, text};
-use cv_open::{End, Opened, Which};
+use cv_open::{End, Which};
 use cv_outside::{Shelf, Sink, Tray};
 use cv_session::{Report, SessionError, run_alone};
-use cv_store::Store;
 use cv_words::session_words;
 use std::alloc::Global;
 
@@ -74,14 +74,13 @@ fn play<T: Tray>(alloc: Global, staged: Staged, tray: &mut T) -> Result<Report, 
         (tray_seen T.Tray tray.old).files (tray_seen T.Tray tray.new).files }
 {
     let Staged { opened, script } = staged;
-    let Opened { file, contents } = opened;
-    let Ok(specs) = specs_of(alloc, file.canvases()) else {
+    let Ok(specs) = specs_of(alloc, opened.file.canvases()) else {
         return Err(SessionError::NoMemory);
     };
-    let Ok(views) = first_views(alloc, file.canvases()) else {
+    let Ok(views) = first_views(alloc, opened.file.canvases()) else {
         return Err(SessionError::NoMemory);
     };
-    let Ok(store) = Store::open(alloc, file, contents.into_vec()) else {
+    let Ok(store) = store_of(alloc, opened) else {
         return Err(SessionError::NoMemory);
     };
     run_alone(
@@ -92,6 +91,16 @@ fn play<T: Tray>(alloc: Global, staged: Staged, tray: &mut T) -> Result<Report, 
         &script,
         tray,
     )
+}
+
+/// The end of a session that stopped.
+fn end_of_error(error: &SessionError) -> End
+    ensures { result ≡ error_end error.now }
+{
+    match error {
+        SessionError::Tray(image, _) => End::WriteFault(Which::Output(*image)),
+        SessionError::NoMemory => End::NoMemory,
+    }
 }
 
 /// Plays the script on the project, and prints the journal.
@@ -109,8 +118,7 @@ fn play_staged<T: Tray, O: Sink>(
 {
     match play(alloc, staged, tray) {
         Ok(report) => print_journal(alloc, &report, out),
-        Err(SessionError::Tray(image, _)) => End::WriteFault(Which::Output(image)),
-        Err(SessionError::NoMemory) => End::NoMemory,
+        Err(error) => end_of_error(&error),
     }
 }
 
