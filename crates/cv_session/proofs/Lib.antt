@@ -16,4 +16,5 @@ pub mod ViewLemmas
 pub mod TaskLemmas
 pub mod ServeLemmas
 pub mod WaitLemmas
+pub mod RunLemmas
 pub mod WorkedOthers

@@ -200,7 +200,7 @@ spec_of k = Some k.spec
 spec_seen : IsSeen spec_of
 spec_seen = record { viewed = λ view k. refl; cache = λ cache k. refl }
 
-size_stays : (s : State) (who c : ℕ) (a : Act) (view : PixelGrid) → IsOfSize s c view → IsOfSize (did s who a) c view
+pub size_stays : (s : State) (who c : ℕ) (a : Act) (view : PixelGrid) → IsOfSize s c view → IsOfSize (did s who a) c view
 size_stays s who c a view h = by (slice_get s.canvases c) (slice_get (did s who a).canvases c) (settled_one spec_of spec_seen (λ j job k. refl) s who c a) h
   where
     by : (o p : Option Canvas) → option_and_then spec_of p ≡ option_and_then spec_of o → IsSomeAnd o (λ (k : Canvas). (view.w ≡ k.spec.w) × (view.h ≡ k.spec.h))

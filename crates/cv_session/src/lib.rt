@@ -9,8 +9,10 @@ mod commands;
 pub mod laws;
 mod outputs;
 mod report;
+mod run;
 mod seat;
 mod tasks;
 mod views;
 
 pub use report::{Report, SessionError};
+

@@ -1,0 +1,169 @@
+-- How a session begins, and how it plays a whole script.
+use Rattle.std.proofs.Common.{◌≡◌, refl, ap, sym, ◌∙◌, subst, ◌≤◌, ◌<◌, ℕ, zero, suc, ◌+◌, Bool, true, false, if◌then◌else◌, List, [], ◌∷◌, ◌++◌, map, length, take, drop, get_or, replicate, slice_get, Option, Some, None, is_some, option_map, option_and_then, option_to_list, arith, IsSome, IsSomeAnd, IfSome, IsTrue, Result, Ok, Err, OnOk, append_assoc}
+use Rattle.std.specs.List.{AllByRecursion}
+use Rattle.std.proofs.lemmas.List.{append-nil, length-append, drop_more, drop_all}
+use Rattle.cv_model.specs.declared.project.CanvasSpec.{CanvasSpec}
+use Rattle.cv_model.specs.Layers.{Opening}
+use Rattle.cv_model.specs.Views.{PixelGrid}
+use Rattle.cv_outside.specs.Seen.{TraySeen}
+use Rattle.cv_event.specs.declared.entry.Act.{Act}
+use Rattle.cv_event.specs.declared.entry.Act.TheVariants as act
+use Rattle.cv_event.specs.declared.entry.Entry.{Entry}
+use Rattle.cv_event.specs.declared.slot.Task.{Task}
+use Rattle.cv_event.specs.Legality.{IsLegal}
+use Rattle.cv_event.specs.States.{Job, Canvas, State, job_in, view_on, new_canvas, begin, did}
+use Rattle.cv_desk.specs.Desks.{History, state, Notes}
+use Rattle.cv_script.specs.declared.script.Command.{Command}
+use Rattle.cv_script.specs.declared.script.Numbered.{Numbered}
+use Rattle.cv_script.specs.Scripts.{IsScript}
+use Rattle.cv_session.specs.Responses.{last_job}
+use Rattle.cv_session.specs.Plays.{Mode, Opens, Begins, Closes, Written, Play, due_in, turned, silent, planned, entered, next, entry_by, Plays, stops, quiet, own}
+use Rattle.cv_session.specs.Follows.{at_first}
+use Rattle.cv_session.specs.Seats.{Seat, now, task_of, tasks_of, IsHeldOf, canvas_spec, IsOfSize, IsSeat, Enters, play_of, Moves, Obeys}
+use Rattle.cv_session.specs.Files.{Puts}
+use Rattle.cv_session.specs.Outputs.{Done, Broken}
+use Rattle.cv_session.specs.Runs.{IsOpened, ShowsFirst, SizesStay, AreOfSize, ShowsAll, Through, Cut, Ends}
+use Rattle.cv_session.proofs.PlayLemmas.{same_some}
+use Rattle.cv_session.specs.HeldLaws.{HoldsTasks}
+use Rattle.cv_session.specs.Covered.{Covers}
+use Rattle.cv_session.proofs.SeatLemmas.{AreSized, size_stays}
+use Rattle.cv_session.proofs.MoveLemmas.{longer, stay_put, go_on, by_quiet, by_own}
+use Rattle.cv_session.proofs.OutputLemmas.{puts_more}
+
+-- ---- places of lists
+
+-- what stands at a place, and behind it
+there_at : {A : Type 0} (xs : List A) (i : ℕ) (x : A) → i < length xs → x ≡ get_or xs i x → slice_get xs i ≡ Some x
+there_at [] i x low e = absurd (omega (arith, low))
+there_at (y ∷ ys) zero x low e = ap Some (sym e)
+there_at (y ∷ ys) (suc i) x low e = there_at ys i x (omega (arith, low)) e
+
+pub item_at : {A : Type 0} (xs : List A) (i : ℕ) (x : A) → i < length xs → x ≡ get_or xs i x → (drop i xs ≡ x ∷ drop (i + 1) xs) × (slice_get xs i ≡ Some x)
+item_at xs i x low e = (drop_more xs i x low ∙ ap (λ z. z ∷ drop (i + 1) xs) (sym e), there_at xs i x low e)
+
+-- ---- a session that is opened
+
+replicate_at : {A : Type 0} (specs : List CanvasSpec) (c : ℕ) (x : A) → slice_get (replicate (length specs) x) c ≡ option_map (λ (k : Canvas). x) (slice_get (map new_canvas specs) c)
+replicate_at [] c x = refl
+replicate_at (s ∷ ss) zero x = refl
+replicate_at (s ∷ ss) (suc c) x = replicate_at ss c x
+
+specs_at : (specs : List CanvasSpec) (c : ℕ) → slice_get specs c ≡ option_map canvas_spec (slice_get (map new_canvas specs) c)
+specs_at [] c = refl
+specs_at (s ∷ ss) zero = refl
+specs_at (s ∷ ss) (suc c) = specs_at ss c
+
+no_view_at : (specs : List CanvasSpec) (c : ℕ) → option_and_then (λ (k : Canvas). k.view) (slice_get (map new_canvas specs) c) ≡ None
+no_view_at [] c = refl
+no_view_at (s ∷ ss) zero = refl
+no_view_at (s ∷ ss) (suc c) = no_view_at ss c
+
+no_job_at : (j : ℕ) (job : Job) → job_in [] j ≡ Some job → ⊥
+no_job_at zero job e = absurd cc
+no_job_at (suc m) job e = absurd cc
+
+-- it is a seat
+pub seat_opened : (o : Opening) (seat : Seat) → now seat ≡ begin o → seat.held ≡ [] → seat.specs ≡ o.canvases
+    → seat.lasts ≡ replicate (length o.canvases) None → IsSeat seat
+seat_opened o seat is held specs lasts =
+    let tasks : tasks_of seat ≡ [] = ap (map task_of) held in
+    record {
+      holds = subst (λ (s : State). HoldsTasks s (tasks_of seat)) (sym is) (subst (HoldsTasks (begin o)) (sym tasks) (record { owed = tt; apart = tt }));
+      covers = subst (λ (s : State). Covers s (tasks_of seat)) (sym is) (λ j job e live. absurd (no_job_at j job e));
+      pieces = subst (AllByRecursion (IsHeldOf seat.history)) (sym held) tt;
+      specs = λ c. ap (λ (xs : List CanvasSpec). slice_get xs c) specs ∙ specs_at o.canvases c ∙ ap (λ (s : State). option_map canvas_spec (slice_get s.canvases c)) (sym is);
+      lasts = λ c. ap (λ (xs : List (Option ℕ)). slice_get xs c) lasts ∙ replicate_at o.canvases c None
+          ∙ ap (λ (s : State). option_map (λ (k : Canvas). last_job s c) (slice_get s.canvases c)) (sym is);
+      sized = subst AreSized (sym is) (λ c view e. absurd (none_some (sym (no_view_at o.canvases c) ∙ e)));
+    }
+  where
+    none_some : {view : PixelGrid} → None ≡ Some view → ⊥
+    none_some h = absurd cc
+
+-- its play is the first one of a script
+pub first_play : (o : Opening) (views : List (Option PixelGrid)) (script : List Numbered) (seat : Seat) → IsOpened o seat
+    → at_first o views script ≡ play_of (Opens 0 views) script [] seat
+first_play o views script seat f = λ i. record {
+  read = length (sym f.journal i);
+  state = sym f.state i;
+  known = sym f.state i;
+  due = due_in (sym f.state i);
+  held = map task_of (sym f.held i);
+  mode = Opens 0 views;
+  commands = script;
+  refused = sym f.refused i;
+  written = [];
+}
+
+-- ---- first views
+
+pub sizes_stay : (old new : Seat) (a : Act) → Enters old new a → SizesStay (now old) (now new)
+sizes_stay old new a e = λ c view h. subst (λ (s : State). IsOfSize s c view) (sym e.notes.becomes) (size_stays (now old) 0 c a view h)
+
+pub shows_view : (old new : Seat) (c : ℕ) (view : PixelGrid) → Enters old new (act.View c view) → ShowsFirst old new c (Some view)
+shows_view old new c view e = λ views cs.
+    by_own (Opens c (Some view ∷ views)) (Opens (suc c) views) cs cs old new (act.View c view) [] e.notes (λ before. refl)
+    (λ before. arrives views cs before)
+  where
+    arrives : (views : List (Option PixelGrid)) (cs : List Numbered) (before : List Written)
+        → next (act.View c view) (play_of (Opens c (Some view ∷ views)) cs before old) ≡ play_of (Opens (suc c) views) cs (before ++ []) new
+    arrives views cs before =
+        let read = longer old new (act.View c view) e.notes in
+        λ i. record {
+          read = read i;
+          state = sym e.notes.becomes i;
+          known = sym e.notes.becomes i;
+          due = due_in (sym e.notes.becomes i);
+          held = map task_of (sym e.held i);
+          mode = Opens (suc c) views;
+          commands = cs;
+          refused = sym e.refused i;
+          written = sym (append-nil before) i;
+        }
+
+pub shows_none : (seat : Seat) (c : ℕ) → ShowsFirst seat seat c None
+shows_none seat c = λ views cs. by_quiet (Opens c (None ∷ views)) (Opens (suc c) views) cs cs seat seat refl (λ before. refl)
+
+-- all views so far, and the next one
+pub shows_next : (views : List (Option PixelGrid)) (a b d : Seat) (i c : ℕ) (view : Option PixelGrid) → c ≡ i → drop i views ≡ view ∷ drop (i + 1) views
+    → ((cs : List Numbered) → Moves (Opens 0 views) cs a (Opens i (drop i views)) cs b []) → ShowsFirst b d c view
+    → (cs : List Numbered) → Moves (Opens 0 views) cs a (Opens (i + 1) (drop (i + 1) views)) cs d []
+shows_next views a b d i c view at left first more = λ cs.
+    subst (λ (n : ℕ). Moves (Opens 0 views) cs a (Opens n (drop (i + 1) views)) cs d []) (let e = at in omega (arith, e))
+    (go_on (Opens 0 views) (Opens c (view ∷ drop (i + 1) views)) (Opens (suc c) (drop (i + 1) views)) cs cs cs a b d [] []
+    (subst (λ (n : ℕ). Moves (Opens 0 views) cs a (Opens n (view ∷ drop (i + 1) views)) cs b []) (sym at)
+    (subst (λ (l : List (Option PixelGrid)). Moves (Opens 0 views) cs a (Opens i l) cs b []) left (first cs))) (more (drop (i + 1) views) cs))
+
+pub shows_all : (views : List (Option PixelGrid)) (a b : Seat) (i : ℕ) → drop i views ≡ []
+    → ((cs : List Numbered) → Moves (Opens 0 views) cs a (Opens i (drop i views)) cs b []) → ShowsAll a b views
+shows_all views a b i none f = λ cs.
+    go_on (Opens 0 views) (Opens i []) Begins cs cs cs a b b [] []
+    (subst (λ (l : List (Option PixelGrid)). Moves (Opens 0 views) cs a (Opens i l) cs b []) none (f cs)) (by_quiet (Opens i []) Begins cs cs b b refl (λ before. refl))
+
+-- a view that a canvas gets is of its size
+pub first_size : (s : State) (views : List (Option PixelGrid)) (c : ℕ) (o : Option PixelGrid) → AreOfSize s views → slice_get views c ≡ Some o
+    → IfSome o (IsOfSize s c)
+first_size s views c None f e = tt
+first_size s views c (Some view) f e = f c view e
+
+-- ---- commands
+
+pub through_none : (cs : List Numbered) (seat : Seat) (tray : TraySeen) → Through cs seat seat cs 0 tray tray
+through_none cs seat tray = record { files = []; moves = stay_put Begins cs seat; count = refl; puts = λ t q. refl }
+
+pub through_more : (cs : List Numbered) (a b d : Seat) (n : Numbered) (rest : List Numbered) (images more : ℕ) (t u v : TraySeen)
+    → Through cs a b (n ∷ rest) images t u → u.tells ≡ t.tells → Done b d n.line n.command more u v → Through cs a d rest (images + more) t v
+through_more cs a b d n rest images more t u v f same g = record {
+  files = f.files ++ g.files;
+  moves = go_on Begins Begins Begins cs (n ∷ rest) rest a b d f.files g.files f.moves (g.obeys rest);
+  count = let l = length-append f.files g.files in omega (arith, l, f.count, g.count);
+  puts = λ h. puts_more f.files g.files t.files u.files v.files (f.puts h) (g.puts (subst IsTrue (sym same) h));
+}
+
+-- ---- the end
+
+pub closes : (old new : Seat) → Moves Closes [] old Closes [] new [] → new.held ≡ [] → Ends old new
+closes old new m h = record {
+  moves = go_on Begins Closes Closes [] [] [] old old new [] [] (by_quiet Begins Closes [] [] old old refl (λ before. refl)) m;
+  none = h;
+}
