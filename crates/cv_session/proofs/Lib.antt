@@ -14,4 +14,5 @@ pub mod ObeyLemmas
 pub mod TaskLemmas
 pub mod ServeLemmas
 pub mod WaitLemmas
+pub mod ViewLemmas
 pub mod WorkedOthers

@@ -8,6 +8,7 @@ use Rattle.cv_event.specs.declared.refused.Reason.{Reason}
 use Rattle.cv_event.specs.declared.refused.Refused.{Refused}
 use Rattle.cv_event.specs.declared.slot.Task.{Task}
 use Rattle.cv_event.specs.States.{State, did}
+use Rattle.cv_tables.specs.Tabs.{state_of}
 use Rattle.cv_desk.specs.Desks.{History, state, Notes, Stays}
 use Rattle.cv_script.specs.declared.script.Command.{Command}
 use Rattle.cv_script.specs.declared.script.Numbered.{Numbered}
@@ -62,13 +63,43 @@ does old new line c a files r l rest = record {
       (subst (λ (p : Play). Plays 0 p [] (play_of Begins rest (before ++ files) new)) (sym (arrives old new line c a files before rest l)) (stops (play_of Begins rest (before ++ files) new)));
 }
 
+-- a command is refused by what is seen now, however many places were set aside
+pub record Declines (old new : Seat) (line : ℕ) (why : Reason) : Type 0 where
+  pub opening : new.history.opening ≡ old.history.opening
+  pub journal : new.history.journal ≡ old.history.journal
+  pub state : now new ≡ now old
+  pub held : tasks_of new ≡ tasks_of old
+  pub refused : new.refused ≡ old.refused ++ record { line = line; seen = length old.history.journal; reason = why } ∷ []
+
+pub declines : (old new : Seat) (line : ℕ) (why : Reason) → Refuses old new line why → Declines old new line why
+declines old new line why f = record {
+  opening = ap (λ (h : History). h.opening) f.history;
+  journal = ap (λ (h : History). h.journal) f.history;
+  state = ap state f.history;
+  held = ap (map task_of) f.held;
+  refused = f.refused;
+}
+
+pub declines_same : (old mid new : Seat) (line : ℕ) (why : Reason) → mid ≡ old → Refuses mid new line why → Declines old new line why
+declines_same old mid new line why e f = declines old new line why (subst (λ (m : Seat). Refuses m new line why) e f)
+
+pub declines_behind : (old mid new : Seat) (line : ℕ) (why : Reason) → Stands old mid → Refuses mid new line why → Declines old new line why
+declines_behind old mid new line why s f = record {
+  opening = ap (λ (h : History). h.opening) f.history ∙ s.stays.opening;
+  journal = ap (λ (h : History). h.journal) f.history ∙ s.stays.journal;
+  state = ap state f.history ∙ ap state_of s.stays.tables;
+  held = ap (map task_of) (f.held ∙ s.held);
+  refused = f.refused ∙ ap (λ (rs : List Refused). rs ++ record { line = line; seen = length mid.history.journal; reason = why } ∷ []) s.refused
+      ∙ ap (λ (es : List Entry). old.refused ++ record { line = line; seen = length es; reason = why } ∷ []) s.stays.journal;
+}
+
 -- a command that is refused
 pub denies : (old new : Seat) (line : ℕ) (c : Command) (why : Reason) → response (now old) (length (tasks_of old)) c ≡ Denies why
-    → Refuses old new line why → Obeys old new line c []
+    → Declines old new line why → Obeys old new line c []
 denies old new line c why r f rest = record {
   entries = [];
-  opening = ap (λ (h : History). h.opening) f.history;
-  journal = ap (λ (h : History). h.journal) f.history ∙ sym (append-nil old.history.journal);
+  opening = f.opening;
+  journal = f.journal ∙ sym (append-nil old.history.journal);
   plays = λ before. quiet (play_of Begins (behind line c rest) before old) (refusing line why (record (play_of Begins (behind line c rest) before old) { commands = rest })) _ []
       (ap (λ x. begun line rest x (play_of Begins (behind line c rest) before old)) r)
       (subst (λ (p : Play). Plays 0 p [] (play_of Begins rest (before ++ []) new)) (sym (refused_play before)) (stops (play_of Begins rest (before ++ []) new)));
@@ -76,11 +107,11 @@ denies old new line c why r f rest = record {
   where
     refused_play : (before : List Written) → refusing line why (record (play_of Begins (behind line c rest) before old) { commands = rest }) ≡ play_of Begins rest (before ++ []) new
     refused_play before = λ i. record {
-      read = length (sym f.history i).journal;
-      state = state (sym f.history i);
-      known = state (sym f.history i);
-      due = due_in (state (sym f.history i));
-      held = map task_of (sym f.held i);
+      read = length (sym f.journal i);
+      state = sym f.state i;
+      known = sym f.state i;
+      due = due_in (sym f.state i);
+      held = sym f.held i;
       mode = Begins;
       commands = rest;
       refused = sym f.refused i;
@@ -105,7 +136,7 @@ go_on m m2 m3 cs cs2 cs3 a b c files more first second = record {
   entries = first.entries ++ second.entries;
   opening = second.opening ∙ first.opening;
   journal = second.journal ∙ ap (λ (es : List Entry). es ++ second.entries) first.journal ∙ append_assoc a.history.journal first.entries second.entries;
-  plays = λ before. joined second.entries (play_of m3 cs3 (before ++ files ++ more) c) (first.plays before)
+  plays = λ before. joined second.entries (play_of m3 cs3 (before ++ (files ++ more)) c) (first.plays before)
       (subst (λ (w : List Written). Plays 0 (play_of m2 cs2 (before ++ files) b) second.entries (play_of m3 cs3 w c)) (append_assoc before files more) (second.plays (before ++ files)));
 }
 

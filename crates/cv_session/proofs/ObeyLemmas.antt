@@ -1,7 +1,8 @@
 -- Each way through a command, over plain seats.
-use Rattle.std.proofs.Common.{◌≡◌, refl, ap, sym, ◌∙◌, subst, ◌≤◌, ◌<◌, ℕ, suc, ◌==◌, ◌+◌, nat_lt, nat_le, Bool, true, false, if◌then◌else◌, List, [], ◌∷◌, ◌++◌, map, length, slice_get, Option, Some, None, is_some, option_map, option_and_then, option_to_list, arith, IsSome, IsNone, IsSomeAnd, Result, Ok, Err}
-use Rattle.std.specs.Option.{option_map_or}
+use Rattle.std.proofs.Common.{◌≡◌, refl, ap, sym, ◌∙◌, subst, ◌≤◌, ◌<◌, ℕ, suc, ◌==◌, ◌+◌, nat_lt, nat_le, Bool, true, false, if◌then◌else◌, List, [], ◌∷◌, ◌++◌, map, length, slice_get, Option, Some, None, is_some, option_map, option_and_then, option_to_list, arith, IsSome, IsNone, IsSomeAnd, Result, Ok, Err, OnOk}
+use Rattle.std.specs.Option.{option_map_or, option_or}
 use Rattle.std.proofs.lemmas.List.{append-nil, map-append}
+use Rattle.std.proofs.lemmas.Bool.{false≢true}
 use Rattle.std.proofs.lemmas.Bool.Decides.{nat_tests}
 use Rattle.cv_model.specs.declared.edit.Edit.{Edit}
 use Rattle.cv_model.specs.declared.edit.EditError.{EditError}
@@ -17,7 +18,7 @@ use Rattle.cv_event.specs.States.{Job, Canvas, State, view_on, job_in, did}
 use Rattle.cv_event.specs.Legality.{OfJob, how}
 use Rattle.cv_script.specs.declared.script.Command.{Command}
 use Rattle.cv_script.specs.declared.script.Command.TheVariants as command
-use Rattle.cv_session.specs.Responses.{Response, Does, Gives, Waits, Refuses as Denies, edit_reason, ended_reason, held_by, last_job, at_canvas, at_view, at_job, starts, unless_ended, response}
+use Rattle.cv_session.specs.Responses.{Response, Does, Gives, Waits, Refuses as Denies, edit_reason, ended_reason, held_by, last_from, last_job, at_canvas, at_view, at_job, starts, unless_ended, response}
 use Rattle.cv_session.specs.Plays.{Written, act_of, refusals, file_of}
 use Rattle.cv_session.specs.Entered.{IsClaim, MayAct}
 use Rattle.cv_session.specs.declared.seat.HeldTask.{HeldTask}
@@ -28,15 +29,64 @@ use Rattle.cv_session.specs.Seats.{Seat, now, task_of, tasks_of, Enters, Stands,
 use Rattle.cv_session.proofs.PlayLemmas.{same_some}
 use Rattle.cv_session.proofs.EnteredLemmas.{act_planned}
 use Rattle.cv_session.proofs.WriteLemmas.{no_file_written}
-use Rattle.cv_session.proofs.MoveLemmas.{Leaves, longer, does, denies}
+use Rattle.cv_session.proofs.MoveLemmas.{Leaves, longer, does, Declines, declines, declines_behind, denies}
+
+-- what follows of an answer
+pub on_ok : {A E : Type 0} {P Q : Type 0} (r : Result A E) → (P → Q) → OnOk r P → OnOk r Q
+on_ok (Ok x) f h = f h
+on_ok (Err e) f h = tt
 
 -- responses of what isn't there
-no_canvas : (s : State) (c : ℕ) (ask : Canvas → Response) → slice_get s.canvases c ≡ None → at_canvas s c ask ≡ Denies reason.UnknownCanvas
+pub no_canvas : (s : State) (c : ℕ) (ask : Canvas → Response) → slice_get s.canvases c ≡ None → at_canvas s c ask ≡ Denies reason.UnknownCanvas
 no_canvas s c ask h = ap (λ (o : Option Canvas). option_map_or ask o (Denies reason.UnknownCanvas)) h
 
 none_of : {A : Type 0} (o : Option A) → is_some o ≡ false → o ≡ None
 none_of None h = refl
 none_of (Some x) h = absurd cc
+
+pub none_is : {A : Type 0} (o : Option A) → IsNone o → o ≡ None
+none_is None h = refl
+none_is (Some x) h = absurd cc
+
+-- a canvas's last job is there
+abbrev IsJobFrom : ℕ → List Job → ℕ → Type 0
+IsJobFrom k xs j = (m : ℕ) × (j ≡ k + m) × (is_some (slice_get xs m) ≡ true)
+
+job_one : (k c : ℕ) (x : Job) (xs : List Job) (j : ℕ) (o : Option ℕ) → ((n : ℕ) → o ≡ Some n → IsJobFrom (suc k) xs n)
+    → option_or o (if x.canvas == c then Some k else None) ≡ Some j → IsJobFrom k (x ∷ xs) j
+job_one k c x xs j None f e = here (x.canvas == c) e
+  where
+    here : (b : Bool) → (if b then Some k else None) ≡ Some j → IsJobFrom k (x ∷ xs) j
+    here false h = absurd cc
+    here true h = let same : k ≡ j = same_some h in (0, omega (arith, same), refl)
+job_one k c x xs j (Some n) f e =
+    let g = f n refl in
+    let same : n ≡ j = same_some e in
+    let at = g.1 in
+    (suc g.0, omega (arith, same, at), g.2)
+
+job_from : (k c : ℕ) (xs : List Job) (j : ℕ) → last_from k c xs ≡ Some j → IsJobFrom k xs j
+job_from k c [] j e = absurd cc
+job_from k c (x ∷ xs) j e = job_one k c x xs j (last_from (suc k) c xs) (λ n g. job_from (suc k) c xs n g) e
+
+last_there : (s : State) (c j : ℕ) → last_job s c ≡ Some j → is_some (job_in s.jobs j) ≡ true
+last_there s c j e =
+    let f = job_from 1 c s.jobs j e in
+    let same : j ≡ suc f.0 = let at = f.1 in omega (arith, at) in
+    subst (λ (n : ℕ). is_some (job_in s.jobs n) ≡ true) (sym same) f.2
+
+pub job_there : (old : Seat) (c j : ℕ) → last_job (now old) c ≡ Some j → IsNone (job_in (now old).jobs j) → ⊥
+job_there old c j e none =
+    false≢true (ap is_some (sym (none_is (job_in (now old).jobs j) none)) ∙ last_there (now old) c j e)
+
+-- what the table of last jobs says
+pub last_is : (o : Option Canvas) (x r : Option ℕ) → Some r ≡ option_map (λ (k : Canvas). x) o → (is_some o ≡ true) × (x ≡ r)
+last_is None x r h = absurd cc
+last_is (Some k) x r h = (refl, sym (same_some h))
+
+pub last_not : (o : Option Canvas) (x : Option ℕ) → None ≡ option_map (λ (k : Canvas). x) o → o ≡ None
+last_not None x h = refl
+last_not (Some k) x h = absurd cc
 
 some_of : {A : Type 0} (o : Option A) → is_some o ≡ true → (x : A) × (o ≡ Some x)
 some_of None h = absurd cc
@@ -135,16 +185,16 @@ no_job s c ask there h = by_canvas (slice_get s.canvases c) there
     by_canvas (Some k) there = ap (λ (o : Option ℕ). option_map_or ask o (Denies reason.NoJob)) h
 
 -- a start that can't be
-pub start_unknown : (old new : Seat) (line c : ℕ) → slice_get (now old).canvases c ≡ None → Refuses old new line reason.UnknownCanvas
+pub start_unknown : (old new : Seat) (line c : ℕ) → slice_get (now old).canvases c ≡ None → Declines old new line reason.UnknownCanvas
     → Obeys old new line (command.Start c) []
 start_unknown old new line c h f = denies old new line (command.Start c) reason.UnknownCanvas (no_canvas (now old) c _ h) f
 
 pub start_no_view : (old new : Seat) (line c : ℕ) → IsSome (slice_get (now old).canvases c) → view_on (now old) c ≡ None
-    → Refuses old new line reason.NoView → Obeys old new line (command.Start c) []
+    → Declines old new line reason.NoView → Obeys old new line (command.Start c) []
 start_no_view old new line c there h f = denies old new line (command.Start c) reason.NoView (no_view (now old) c _ there h) f
 
 pub start_too_many : (old new : Seat) (line c : ℕ) → IsSome (view_on (now old) c) → length (now old).jobs ≡ 4294967295
-    → Refuses old new line reason.TooManyJobs → Obeys old new line (command.Start c) []
+    → Declines old new line reason.TooManyJobs → Obeys old new line (command.Start c) []
 start_too_many old new line c there h f =
     denies old new line (command.Start c) reason.TooManyJobs (by_canvas (slice_get (now old).canvases c) there) f
   where
@@ -161,12 +211,12 @@ start_too_many old new line c there h f =
     by_canvas (Some k) there = by_view k.view there
 
 -- a cancel that can't be
-pub cancel_unknown : (old new : Seat) (line c : ℕ) → slice_get (now old).canvases c ≡ None → Refuses old new line reason.UnknownCanvas
+pub cancel_unknown : (old new : Seat) (line c : ℕ) → slice_get (now old).canvases c ≡ None → Declines old new line reason.UnknownCanvas
     → Obeys old new line (command.Cancel c) []
 cancel_unknown old new line c h f = denies old new line (command.Cancel c) reason.UnknownCanvas (no_canvas (now old) c _ h) f
 
 pub cancel_no_job : (old new : Seat) (line c : ℕ) → IsSome (slice_get (now old).canvases c) → last_job (now old) c ≡ None
-    → Refuses old new line reason.NoJob → Obeys old new line (command.Cancel c) []
+    → Declines old new line reason.NoJob → Obeys old new line (command.Cancel c) []
 cancel_no_job old new line c there h f = denies old new line (command.Cancel c) reason.NoJob (no_job (now old) c _ there h) f
 
 how_is : (s : State) (j : ℕ) (h : How) → OfJob s j (λ job. job.ended ≡ Some h) → how s j ≡ Some h
@@ -177,7 +227,7 @@ how_is s j h f = by_job (job_in s.jobs j) f
     by_job (Some job) f = f
 
 pub cancel_ended : (old new : Seat) (line c j : ℕ) (h : How) → IsSome (slice_get (now old).canvases c) → last_job (now old) c ≡ Some j
-    → OfJob (now old) j (λ job. job.ended ≡ Some h) → Refuses old new line (ended_reason h) → Obeys old new line (command.Cancel c) []
+    → OfJob (now old) j (λ job. job.ended ≡ Some h) → Declines old new line (ended_reason h) → Obeys old new line (command.Cancel c) []
 cancel_ended old new line c j h there last e f =
     denies old new line (command.Cancel c) (ended_reason h) (by_canvas (slice_get (now old).canvases c) there) f
   where

@@ -1,6 +1,6 @@
 -- What a session keeps behind the calls of its desk.
 use Rattle.std.proofs.Common.{◌≡◌, refl, ap, sym, ◌∙◌, subst, ◌≤◌, ◌<◌, ℕ, zero, suc, ◌==◌, ◌+◌, Bool, true, false, if◌then◌else◌}
-use Rattle.std.proofs.Common.{List, [], ◌∷◌, ◌++◌, map, length, set, slice_get, Option, Some, None, is_some, option_map, option_and_then, arith, IsSomeAnd}
+use Rattle.std.proofs.Common.{List, [], ◌∷◌, ◌++◌, map, length, set, slice_get, Option, Some, None, is_some, option_map, option_and_then, arith, IsSomeAnd, Result, Ok, Err, OnOk, OnErr}
 use Rattle.std.specs.List.{AllByRecursion}
 use Rattle.std.specs.Option.{option_or}
 use Rattle.std.proofs.lemmas.List.{append-nil, map-append, length-map}
@@ -8,6 +8,7 @@ use Rattle.std.proofs.lemmas.Bool.{false≢true, true≢false, eqb-true}
 use Rattle.std.proofs.lemmas.Bool.Decides.{nat_tests}
 use Rattle.cv_model.specs.declared.edit.Edit.{Edit}
 use Rattle.cv_model.specs.declared.edit.EditError.{EditError}
+use Rattle.cv_model.specs.declared.edit.EditError.TheVariants as error
 use Rattle.cv_model.specs.Paintings.{Composition}
 use Rattle.cv_model.specs.Views.{PixelGrid, IsView}
 use Rattle.cv_model.specs.declared.project.CanvasSpec.{CanvasSpec}
@@ -26,6 +27,7 @@ use Rattle.cv_event.proofs.ShownLemmas.{presence, presence_seen, IsSeen, settled
 use Rattle.cv_tables.specs.Rows.{Row, row_in, whole_of}
 use Rattle.cv_tables.specs.Tabs.{Tables, state_of}
 use Rattle.cv_desk.specs.Desks.{History, state, KeepJobs, Notes, Stays, basis_of}
+use Rattle.cv_desk.specs.Answers.{EditNotes}
 use Rattle.cv_desk.proofs.BasisLemmas.{jobs_same, basis_stays, piece_stays, whole_stays}
 use Rattle.cv_session.specs.declared.seat.HeldTask.{HeldTask}
 use Rattle.cv_session.specs.declared.seat.HeldTask.TheVariants as held
@@ -214,7 +216,7 @@ size_given s who c (act.View k v) view g allowed = by (k == c) refl g
   where
     sizes : (o : Option Canvas) → IsSomeAnd o (λ (k : Canvas). IsView v × (v.w ≡ k.spec.w) × (v.h ≡ k.spec.h)) → IsSomeAnd o (λ (k : Canvas). (v.w ≡ k.spec.w) × (v.h ≡ k.spec.h))
     sizes None h = absurd h
-    sizes (Some k) h = h.1
+    sizes (Some k) h = (h.1, h.2)
     by : (b : Bool) → (k == c) ≡ b → (if b then Some v else None) ≡ Some view → IsOfSize s c view
     by false e g = absurd cc
     by true e g = subst (IsOfSize s c) (same_some g) (subst (λ (n : ℕ). IsOfSize s n v) (eqb-true k c e) (sizes (slice_get s.canvases k) allowed))
@@ -296,3 +298,43 @@ seat_stands old new seat stays e specs lasts =
       lasts = subst (λ (s : State). AreLast s new.lasts) (sym same) (subst (AreLast (now old)) (sym lasts) seat.lasts);
       sized = subst AreSized (sym same) seat.sized;
     }
+
+-- behind an answer: an entry or nothing
+pub seat_answers : {A E : Type 0} (r : Result A E) (old new : Seat) (a : Act) → IsSeat old → is_delivery a ≡ false → held_by a ≡ [] → is_start a ≡ false
+    → new.held ≡ old.held → new.specs ≡ old.specs → new.lasts ≡ old.lasts → OnOk r (Notes old.history new.history 0 a) → OnErr r (Stays old.history new.history)
+    → IsSeat new
+seat_answers (Ok x) old new a seat n none start held specs lasts ok err = seat_goes_on old new a seat ok n none start held specs lasts
+seat_answers (Err e) old new a seat n none start held specs lasts ok err = seat_stands old new seat err held specs lasts
+
+-- a desk that is as it was
+pub stays_same : (old new : History) → new ≡ old → Stays old new
+stays_same old new e = record {
+  opening = ap (λ (h : History). h.opening) e;
+  journal = ap (λ (h : History). h.journal) e;
+  tables = ap (λ (h : History). h.tables) e;
+  spare = let s : new.spare ≡ old.spare = ap (λ (h : History). h.spare) e in omega (arith, s);
+}
+
+pub on_err : {A E : Type 0} (r : Result A E) (old new : History) → OnErr r (new ≡ old) → OnErr r (Stays old new)
+on_err (Ok x) old new h = tt
+on_err (Err e) old new h = stays_same old new h
+
+-- behind an edit
+pub seat_edited : (r : Result (Unit {0}) EditError) (old new : Seat) (e : Edit) → IsSeat old → new.held ≡ old.held → new.specs ≡ old.specs → new.lasts ≡ old.lasts
+    → EditNotes old.history new.history 0 e r → IsSeat new
+seat_edited (Ok x) old new e seat held specs lasts h = seat_goes_on old new (act.Edit e None) seat h refl refl refl held specs lasts
+seat_edited (Err error.NoMemory) old new e seat held specs lasts h = seat_stands old new seat h held specs lasts
+seat_edited (Err error.UnknownLayer) old new e seat held specs lasts h = seat_goes_on old new (act.Edit e (Some error.UnknownLayer)) seat h refl refl refl held specs lasts
+seat_edited (Err error.UnknownFeature) old new e seat held specs lasts h = seat_goes_on old new (act.Edit e (Some error.UnknownFeature)) seat h refl refl refl held specs lasts
+seat_edited (Err error.WrongKind) old new e seat held specs lasts h = seat_goes_on old new (act.Edit e (Some error.WrongKind)) seat h refl refl refl held specs lasts
+seat_edited (Err error.DuplicateId) old new e seat held specs lasts h = seat_goes_on old new (act.Edit e (Some error.DuplicateId)) seat h refl refl refl held specs lasts
+seat_edited (Err error.Limit) old new e seat held specs lasts h = seat_goes_on old new (act.Edit e (Some error.Limit)) seat h refl refl refl held specs lasts
+seat_edited (Err error.BadPlace) old new e seat held specs lasts h = seat_goes_on old new (act.Edit e (Some error.BadPlace)) seat h refl refl refl held specs lasts
+
+-- behind a start
+pub seat_started : (old new : Seat) (c j : ℕ) → IsSeat old → Notes old.history new.history 0 (act.Start c j) → new.held ≡ old.held → new.specs ≡ old.specs
+    → new.lasts ≡ set old.lasts c (Some j) → IsSeat new
+seat_started old new c j seat notes held specs lasts =
+    seat_goes old new (act.Start c j) seat notes refl refl held specs
+    (subst (λ (s : State). AreLast s new.lasts) (sym notes.becomes)
+    (subst (AreLast (did (now old) 0 (act.Start c j))) (sym lasts) (lasts_started (now old) c j old.lasts notes.allowed seat.lasts)))

@@ -12,7 +12,7 @@ use cv_event::{How, Reason};
 use cv_model::{Edit, EditError, NoMemory};
 
 /// Why a command is refused that speaks of a job with this end.
-fn ended_reason(how: How) -> Reason
+pub(crate) fn ended_reason(how: How) -> Reason
     ensures { result ≡ ended_reason how }
 {
     match how {

@@ -9,3 +9,4 @@ pub mod laws;
 mod commands;
 mod seat;
 mod tasks;
+mod views;

@@ -145,9 +145,13 @@ impl Session {
         ensures ok { IfOk result (λ job. Enters self.old self.new (act.Start canvas job)) }
         ensures err { OnErr result (Stands self.old self.new) }
     {
-        let job = self.desk.start(0, canvas)?;
-        put_last(&mut self.lasts, canvas, job);
-        Ok(job)
+        match self.desk.start(0, canvas) {
+            Ok(job) => {
+                put_last(&mut self.lasts, canvas, job);
+                Ok(job)
+            }
+            Err(error) => Err(error),
+        }
     }
 }
 

@@ -1,0 +1,11 @@
+use Rattle.std.proofs.Common.{◌≡◌, refl, sym, ap, ◌∙◌, subst, List, [], ◌∷◌, Option, Some, None}
+use Rattle.cv_event.specs.declared.entry.Act.TheVariants as act
+use Rattle.cv_session.specs.Seats.{Seat}
+use Rattle.cv_session.proofs.SeatLemmas.{seat_answers, on_err, seat_edited, seat_started}
+use Rattle.cv_session.proofs.seat.Session.edit.Goals as goal
+
+pub invariant_of-self : goal.invariant_of-self
+invariant_of-self c =
+    seat_edited c.edit.result (record { history = c.self.inside.desk; held = c.self.inside.held.items; specs = c.self.inside.specs.items; lasts = c.self.inside.lasts.items; refused = c.self.inside.refused })
+    (record { history = c.edit.new.self; held = c.self.inside.held.items; specs = c.self.inside.specs.items; lasts = c.self.inside.lasts.items; refused = c.self.inside.refused })
+    c.args.edit c.self.invariant refl refl refl c.edit.ensures.entry
