@@ -1,5 +1,5 @@
 -- Plays of tasks: what is claimed, done and waited for, over plain seats.
-use Rattle.std.proofs.Common.{◌≡◌, refl, ap, sym, ◌∙◌, subst, ◌≤◌, ◌<◌, ℕ, suc, ◌==◌, nat_eq, nat_lt, nat_le, Bool, true, false, not, ◌&&◌, ◌||◌, if◌then◌else◌}
+use Rattle.std.proofs.Common.{◌≡◌, ◌⊎◌, inl, inr, refl, ap, sym, ◌∙◌, subst, ◌≤◌, ◌<◌, ℕ, suc, ◌==◌, nat_eq, nat_lt, nat_le, Bool, true, false, not, ◌&&◌, ◌||◌, if◌then◌else◌}
 use Rattle.std.proofs.Common.{List, [], ◌∷◌, ◌++◌, map, length, drop, slice_get, Option, Some, None, is_some, option_map, option_and_then, option_to_list, arith, IsSome, IsSomeAnd}
 use Rattle.std.specs.List.{list_any}
 use Rattle.std.specs.Option.{option_map_or}
@@ -16,7 +16,7 @@ use Rattle.cv_event.specs.declared.slot.Task.{Task}
 use Rattle.cv_event.specs.declared.slot.Task.TheVariants.{Look, Compose}
 use Rattle.cv_event.specs.States.{Job, Canvas, State, job_in, did}
 use Rattle.cv_event.specs.Legality.{OfJob, how, task, Allows}
-use Rattle.cv_event.proofs.JobLemmas.{after_one}
+use Rattle.cv_event.proofs.JobLemmas.{suc_zero, after_one}
 use Rattle.cv_desk.specs.Desks.{History, state, Notes, Stays}
 use Rattle.cv_desk.specs.Answers.{IsOfJob}
 use Rattle.cv_script.specs.declared.script.Command.{Command}
@@ -32,8 +32,8 @@ use Rattle.cv_session.specs.declared.tasks.Taken.{Taken}
 use Rattle.cv_session.specs.declared.tasks.Taken.TheVariants as taken
 use Rattle.cv_session.specs.Tasks.{ClaimsMore, Takes, Served, is_done, is_failed, is_let_go, ServesFirst, GivesRest, JobsStay, Gives, WaitsOn}
 use Rattle.cv_session.proofs.EnteredLemmas.{allowed_is_planned}
-use Rattle.cv_session.proofs.MoveLemmas.{behind, declines, denies, stay_put, go_on, by_quiet, by_own, by_failed, plays_of}
-use Rattle.cv_session.proofs.ObeyLemmas.{enters, take_holds}
+use Rattle.cv_session.proofs.MoveLemmas.{behind, arrives, declines, denies, stay_put, go_on, by_quiet, by_own, by_failed, plays_of}
+use Rattle.cv_session.proofs.ObeyLemmas.{no_canvas, no_job, enters, take_holds}
 use Rattle.cv_session.proofs.WriteLemmas.{no_file_written}
 use Rattle.cv_session.proofs.TaskLemmas.{done_holds_none}
 
@@ -286,7 +286,7 @@ waits_for old mid last line c j there is gives none waits rest =
     (waits.moves w rest refl)))
 
 -- behind a job that ended otherwise
-pub wait_ends : (old mid last : Seat) (line c j : ℕ) (end : How) → IsSome (slice_get (now old).canvases c) → last_job (now old) c ≡ Some j → Gives old mid → mid.held ≡ []
+wait_ends : (old mid last : Seat) (line c j : ℕ) (end : How) → IsSome (slice_get (now old).canvases c) → last_job (now old) c ≡ Some j → Gives old mid → mid.held ≡ []
     → WaitsOn mid last j → how (now last) j ≡ Some end → (end ≡ how_is.NoMemory → ⊥) → Obeys old last line (command.Wait c) []
 wait_ends old mid last line c j end there is gives none waits ended memory rest =
     let w : Awaited = record { line = line; job = j } in
@@ -339,7 +339,9 @@ give_one old new line f rest =
     (serves_first GivesOne Begins from_one rest old new f)
   where
     asks : response (now old) (length (tasks_of old)) command.Give ≡ Calls
-    asks = ap (λ (ts : List Task). if length ts == 0 then Denies reason.NothingHeld else Calls) f.was
+    asks =
+        ap (λ (ts : List Task). if length ts == 0 then Denies reason.NothingHeld else Calls) f.was
+        ∙ ap (λ (x : Bool). if x then Denies reason.NothingHeld else Calls) (suc_zero (length f.rest))
 
 -- `take`
 held_few : (old : Seat) → length old.held < 64 → length (tasks_of old) < 64
@@ -381,8 +383,12 @@ take_failed : (old new : Seat) (line j : ℕ) → length old.held < 64 → IsSom
 take_failed old new line j few due notes held refused rest =
     by_failed Begins Begins (behind line command.Take rest) rest old new j [] notes
     (λ w. both (nat_lt (length (tasks_of old)) 64) _ (less (length (tasks_of old)) (held_few old few)) (due_is (now old) j due))
-    (λ w. plays_of Begins rest old new (act.Fail j) w notes (tasks_of old ++ []) (ap (map task_of) held ∙ sym (append-nil (tasks_of old))) refused
-    ∙ ap (λ (v : List Written). play_of Begins rest v new) (sym (append-nil w)))
+    (λ w. arrives old new line command.Take (act.Fail j) [] w rest (record {
+      notes = notes;
+      held = ap (map task_of) held ∙ sym (append-nil (tasks_of old));
+      refused = refused ∙ sym (append-nil old.refused);
+      writes = refl;
+    }))
   where
     less : (n : ℕ) → n < 64 → nat_lt n 64 ≡ true
     less n l = grind (arith, nat_tests)
@@ -405,7 +411,7 @@ claim_refuses_none (act.Preview j ready) line seen m = absurd m
 claim_refuses_none (act.Save c j) line seen m = absurd m
 
 -- what a claim takes
-pub take_done : (old new : Seat) (line : ℕ) (end : Taken) → length old.held < 64 → (end ≡ taken.Nothing → ⊥) → Takes old new end → Obeys old new line command.Take []
+take_done : (old new : Seat) (line : ℕ) (end : Taken) → length old.held < 64 → (end ≡ taken.Nothing → ⊥) → Takes old new end → Obeys old new line command.Take []
 take_done old new line taken.Hit few f goes =
     let a = goes.0.0 in
     let more = goes.0.1 in
@@ -422,3 +428,55 @@ take_done old new line taken.Held few f goes =
     take_holds old new line a t (held_few old few) more.claim (sym more.tasks) (claim_refuses_none a line (suc (length old.history.journal)) more.claim) more.notes goes.0.1.1.1 goes.1
 take_done old new line taken.Failed few f goes = take_failed old new line goes.0.0 few goes.0.2 goes.0.1 goes.0.3 goes.1
 take_done old new line taken.Nothing few f goes = absurd (f refl)
+
+pub take_some : (old new : Seat) (line : ℕ) (end : Taken) → length old.held < 64 → (end ≡ taken.Hit) ⊎ ((end ≡ taken.Held) ⊎ (end ≡ taken.Failed)) → Takes old new end
+    → Obeys old new line command.Take []
+take_some old new line end few is goes = take_done old new line end few (λ e. by_end end e is) goes
+  where
+    by_end : (end : Taken) → end ≡ taken.Nothing → (end ≡ taken.Hit) ⊎ ((end ≡ taken.Held) ⊎ (end ≡ taken.Failed)) → ⊥
+    by_end end e (inl h) = hit (sym e ∙ h)
+      where
+        hit : taken.Nothing ≡ taken.Hit → ⊥
+        hit h = cc
+    by_end end e (inr (inl h)) = held (sym e ∙ h)
+      where
+        held : taken.Nothing ≡ taken.Held → ⊥
+        held h = cc
+    by_end end e (inr (inr h)) = failed (sym e ∙ h)
+      where
+        failed : taken.Nothing ≡ taken.Failed → ⊥
+        failed h = cc
+
+-- `wait` of no job
+pub wait_unknown : (old new : Seat) (line c : ℕ) → slice_get (now old).canvases c ≡ None → Refuses old new line reason.UnknownCanvas → Obeys old new line (command.Wait c) []
+wait_unknown old new line c h f =
+    denies old new line (command.Wait c) reason.UnknownCanvas (no_canvas (now old) c (λ k. option_map_or Waits (last_job (now old) c) (Denies reason.NoJob)) h)
+    (declines old new line reason.UnknownCanvas f)
+
+pub wait_no_job : (old new : Seat) (line c : ℕ) → IsSome (slice_get (now old).canvases c) → last_job (now old) c ≡ None → Refuses old new line reason.NoJob
+    → Obeys old new line (command.Wait c) []
+wait_no_job old new line c there h f =
+    denies old new line (command.Wait c) reason.NoJob (no_job (now old) c Waits there h) (declines old new line reason.NoJob f)
+
+-- a job that ended otherwise
+pub wait_ends_well : (old mid last : Seat) (line c j : ℕ) (end : How) → IsSome (slice_get (now old).canvases c) → last_job (now old) c ≡ Some j → Gives old mid → mid.held ≡ []
+    → WaitsOn mid last j → how (now last) j ≡ Some end → (end ≡ how_is.Finished) ⊎ (end ≡ how_is.Cancelled) → Obeys old last line (command.Wait c) []
+wait_ends_well old mid last line c j end there is gives none waits ended kind =
+    wait_ends old mid last line c j end there is gives none waits ended (λ e. by_end kind e)
+  where
+    finished : how_is.Finished ≡ how_is.NoMemory → ⊥
+    finished h = cc
+
+    cancelled : how_is.Cancelled ≡ how_is.NoMemory → ⊥
+    cancelled h = cc
+
+    by_end : (end ≡ how_is.Finished) ⊎ (end ≡ how_is.Cancelled) → end ≡ how_is.NoMemory → ⊥
+    by_end (inl h) e = finished (sym h ∙ e)
+    by_end (inr h) e = cancelled (sym h ∙ e)
+
+-- ---- the end
+
+-- behind the last command all held tasks are done
+pub closes_all : (old new : Seat) → Gives old new → Moves Begins [] old Closes [] new []
+closes_all old new gives =
+    go_on Begins Closes Closes [] [] [] old old new [] [] (by_quiet Begins Closes [] [] old old refl (λ before. refl)) (gives.moves Closes [] tt)

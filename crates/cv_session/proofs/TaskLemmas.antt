@@ -331,17 +331,21 @@ failed_live old mid (claim_error.NoMemory k) j e answer stays =
     subst (λ (i : ℕ). OfJob (state mid) i (λ job. job.ended ≡ None)) (sym e)
     (subst (λ (t : Tables). OfJob (state_of t) k (λ job. job.ended ≡ None)) (sym stays.tables) (due_live (state old) k answer))
 
-pub takes_failed : (old mid new : History) (e : ClaimError) (j : ℕ) (held now_held : List HeldTask) → j ≡ failed_job e → ClaimAnswer old (Err e) → Stays old mid
-    → Notes mid new 0 (act.Fail j) → now_held ≡ held → TakesInto old new held now_held taken.Failed
-takes_failed old mid new (claim_error.NoMemory k) j held now_held e answer stays notes same =
-    (j, (noted_behind old mid new 0 (act.Fail j) stays notes, (subst (λ (i : ℕ). IsSomeAnd (task (state old)) (IsOfJob i)) (sym e) answer, same)))
+pub takes_failed : (old mid new : History) (e : ClaimError) (j : ℕ) (ts now_ts : List HeldTask) → j ≡ failed_job e → ClaimAnswer old (Err e) → Stays old mid
+    → Notes mid new 0 (act.Fail j) → now_ts ≡ ts → TakesInto old new ts now_ts taken.Failed
+takes_failed old mid new (claim_error.NoMemory k) j ts now_ts e answer stays notes same =
+    (j, noted_behind old mid new 0 (act.Fail j) stays notes, subst (λ (i : ℕ). IsSomeAnd (task (state old)) (IsOfJob i)) (sym e) answer, same)
 
-pub takes_piece : (old new : History) (piece : Piece) (held now_held : List HeldTask) → Notes old new 0 (act.Look piece.job piece.slot false)
-    → HasSlot old.tables.rows piece.job piece.slot (IsPiece piece.input piece.view) → now_held ≡ held ++ held.Paint piece ∷ [] → TakesInto old new held now_held taken.Held
-takes_piece old new piece held now_held notes own e =
+pub takes_piece : (old new : History) (piece : Piece) (ts now_ts : List HeldTask) → Notes old new 0 (act.Look piece.job piece.slot false)
+    → HasSlot old.tables.rows piece.job piece.slot (IsPiece piece.input piece.view) → now_ts ≡ ts ++ held.Paint piece ∷ [] → TakesInto old new ts now_ts taken.Held
+takes_piece old new piece ts now_ts notes own e =
     (act.Look piece.job piece.slot false, (held.Paint piece, (record { claim = tt; notes = notes; tasks = refl; own = all_stay old new (held.Paint piece ∷ []) notes.jobs (own, tt) }, e)))
 
-pub takes_compose : (old new : History) (j : ℕ) (input : Composition) (held now_held : List HeldTask) → Notes old new 0 (act.Compose j)
-    → IsSomeAnd (row_in old.tables.rows j) (λ row. input ≡ whole_of row) → now_held ≡ held ++ held.Compose j input ∷ [] → TakesInto old new held now_held taken.Held
-takes_compose old new j input held now_held notes own e =
+pub takes_compose : (old new : History) (j : ℕ) (input : Composition) (ts now_ts : List HeldTask) → Notes old new 0 (act.Compose j)
+    → IsSomeAnd (row_in old.tables.rows j) (λ row. input ≡ whole_of row) → now_ts ≡ ts ++ held.Compose j input ∷ [] → TakesInto old new ts now_ts taken.Held
+takes_compose old new j input ts now_ts notes own e =
     (act.Compose j, (held.Compose j input, (record { claim = tt; notes = notes; tasks = refl; own = all_stay old new (held.Compose j input ∷ []) notes.jobs (own, tt) }, e)))
+
+pub none_held : (ts : List HeldTask) → length ts ≡ 0 → ts ≡ []
+none_held [] e = refl
+none_held (t ∷ ts) e = absurd (omega (arith, e))

@@ -103,7 +103,7 @@ stands_fewer x h at job slot e live o =
 
 composed_fewer : (job : Job) → job.ended ≡ None → job.composer ≡ None → unclaimed_of (composed_by 0 job) < unclaimed_of job
 composed_fewer job live free =
-    let one : (if is_some job.composer then 0 else 1) ≡ 1 = ap (λ (o : Option ℕ). if is_some o then 0 else 1) free in
+    let one : ◌≡◌ {A = ℕ} (if is_some job.composer then 0 else 1) 1 = ap (λ (o : Option ℕ). if is_some o then 0 else 1) free in
     if_fewer (is_some job.ended) (open_in job.slots + 0) (open_in job.slots + (if is_some job.composer then 0 else 1)) (ap is_some live) (omega (arith, one))
 
 -- ---- a job that ends
