@@ -15,4 +15,5 @@ pub mod TaskLemmas
 pub mod ServeLemmas
 pub mod WaitLemmas
 pub mod ViewLemmas
+pub mod OutputLemmas
 pub mod WorkedOthers

@@ -31,7 +31,8 @@ use Rattle.cv_event.proofs.ShownLemmas.{published_is_last_finished}
 use Rattle.cv_script.specs.declared.script.Command.{Command}
 use Rattle.cv_script.specs.declared.script.Command.TheVariants as command
 use Rattle.cv_script.specs.declared.script.Numbered.{Numbered}
-use Rattle.cv_script.specs.Scripts.{AscendFrom}
+use Rattle.cv_script.specs.Scripts.{AscendFrom, IsScript}
+use Rattle.cv_session.specs.Follows.{at_first}
 use Rattle.cv_session.specs.Responses.{last_from, last_job, edit_reason}
 use Rattle.cv_session.specs.Plays.{Written, Mode, Opens, Begins, GivesOne, GivesAll, Works, Closes, Play, entered, refusals, picture_by, file_of, file_with, written_by, through, next_in, next, entry_by}
 use Rattle.cv_session.specs.Plays.{Plays, stops, quiet, own, failed, other}
@@ -95,7 +96,7 @@ last_there k c j (job ∷ jobs) h = by_rest (last_from (suc k) c jobs) refl (las
     by_rest None e rec h = by_test (job.canvas == c) h
     by_rest (Some i) e rec h = later (rec (e ∙ h))
 
-last_is_there : (s : State) (c j : ℕ) → last_job s c ≡ Some j → IsThere s j
+pub last_is_there : (s : State) (c j : ℕ) → last_job s c ≡ Some j → IsThere s j
 last_is_there s c j h =
     let r = last_there 1 c j s.jobs h in
     let n : j ≡ suc r.0 = r.1 ∙ omega arith in
@@ -583,7 +584,7 @@ file_written s d c name p h g =
     ap (λ (o : Option (List ℕ)). option_to_list (option_and_then (λ name. option_map (file_with name) (picture_by s d)) o)) h
     ∙ ap (λ (o : Option (Raster Rgb)). option_to_list (option_map (file_with name) o)) g
 
-name_there : (rs : List Refused) (n : Numbered) (name : List ℕ) → is_refused rs n.line ≡ false → file_of n.command ≡ Some name → name_written rs n ≡ Some name
+pub name_there : (rs : List Refused) (n : Numbered) (name : List ℕ) → is_refused rs n.line ≡ false → file_of n.command ≡ Some name → name_written rs n ≡ Some name
 name_there rs n name h g = ap (λ (x : Bool). if x then None else file_of n.command) h ∙ g
 
 command_step : (a c : Play) (d : Act) (n : Numbered) (rest : List Numbered) (es : List Entry) → Shown a.state d n.command
@@ -662,3 +663,24 @@ pub files_are_writes : FilesAreWrites
 files_are_writes o views script workers journal last is legal p =
     files_played p legal (record { opening = o; past = []; legal = tt; state_is = refl }) 1
     (record { positive = omega arith; commands = is.ascend; refused = tt; mode = omega arith })
+
+-- so the line of a command that is next isn't refused yet
+lines_played : {n : ℕ} {a b : Play} {es : List Entry} → Plays n a es b → (k : ℕ) → Lines k a → (m : ℕ) × Lines m b
+lines_played (stops a) k f = (k, f)
+lines_played (quiet a b c es e r) k f =
+    let more = lines_silent (silently a b e) k f in
+    lines_played r more.0 more.1
+lines_played (own a c d es e r) k f =
+    let more = lines_entered a d (entering a d e) k f in
+    lines_played r more.0 more.1
+lines_played (failed a c j es e r) k f =
+    let more = lines_failed a j (failing a j e) k f in
+    lines_played r more.0 more.1
+lines_played (other a c e es low high is r) k f =
+    lines_played r k (record { positive = f.positive; commands = f.commands; refused = f.refused; mode = f.mode })
+
+pub not_refused_yet : (o : Opening) (views : List (Option PixelGrid)) (script : List Numbered) (b : Play) (n : Numbered) (rest : List Numbered) {es : List Entry} → IsScript script
+    → Plays 0 (at_first o views script) es b → b.commands ≡ n ∷ rest → is_refused b.refused n.line ≡ false
+not_refused_yet o views script b n rest is plays c =
+    let more = lines_played plays 1 (record { positive = omega arith; commands = is.ascend; refused = tt; mode = omega arith }) in
+    none_below more.0 n.line b.refused (first_line more.0 n b.commands rest c more.1.commands).0 more.1.refused

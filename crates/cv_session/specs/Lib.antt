@@ -9,3 +9,6 @@ pub mod HeldLaws
 pub mod Covered
 pub mod Seats
 pub mod Tasks
+pub mod Files
+pub mod Outputs
+pub mod Reports

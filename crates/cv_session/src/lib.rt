@@ -5,8 +5,12 @@
 //! is needed.
 #![tactic(auto)]
 
-pub mod laws;
 mod commands;
+pub mod laws;
+mod outputs;
+mod report;
 mod seat;
 mod tasks;
 mod views;
+
+pub use report::{Report, SessionError};
