@@ -36,7 +36,7 @@ pub record Leaves (old new : Seat) (line : ℕ) (c : Command) (a : Act) (files :
   pub writes : written_by (did (now old) 0 a) a c ≡ files
 
 -- the play behind it is that of the new seat
-arrives : (old new : Seat) (line : ℕ) (c : Command) (a : Act) (files before : List Written) (rest : List Numbered) → Leaves old new line c a files
+pub arrives : (old new : Seat) (line : ℕ) (c : Command) (a : Act) (files before : List Written) (rest : List Numbered) → Leaves old new line c a files
     → next a (play_of Begins (behind line c rest) before old) ≡ play_of Begins rest (before ++ files) new
 arrives old new line c a files before rest l =
     let read = longer old new a l.notes in

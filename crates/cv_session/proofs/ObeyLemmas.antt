@@ -69,7 +69,7 @@ job_from : (k c : ℕ) (xs : List Job) (j : ℕ) → last_from k c xs ≡ Some j
 job_from k c [] j e = absurd cc
 job_from k c (x ∷ xs) j e = job_one k c x xs j (last_from (suc k) c xs) (λ n g. job_from (suc k) c xs n g) e
 
-last_there : (s : State) (c j : ℕ) → last_job s c ≡ Some j → is_some (job_in s.jobs j) ≡ true
+pub last_there : (s : State) (c j : ℕ) → last_job s c ≡ Some j → is_some (job_in s.jobs j) ≡ true
 last_there s c j e =
     let f = job_from 1 c s.jobs j e in
     let same : j ≡ suc f.0 = let at = f.1 in omega (arith, at) in

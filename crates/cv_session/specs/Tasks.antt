@@ -1,7 +1,7 @@
 -- How a session claims and does tasks.
 --
 -- Source: this project's own.
-use Rattle.std.specs.Prelude.{◌≡◌, ◌<◌, ◌+◌, ℕ, suc, true, if◌then◌else◌, List, [], ◌∷◌, ◌++◌, map, Some, None, is_some, IsSome, IsSomeAnd}
+use Rattle.std.specs.Prelude.{◌≡◌, ◌<◌, ◌+◌, ℕ, suc, true, if◌then◌else◌, List, [], ◌∷◌, ◌++◌, map, drop, Some, None, is_some, IsSome, IsSomeAnd}
 use Rattle.std.specs.List.{AllByRecursion}
 use Rattle.cv_event.specs.declared.entry.Act.{Act}
 use Rattle.cv_event.specs.declared.entry.Act.TheVariants as act
@@ -12,6 +12,8 @@ use Rattle.cv_event.specs.declared.slot.Task.TheVariants as task_is
 use Rattle.cv_event.specs.States.{Job, State, job_in}
 use Rattle.cv_event.specs.Legality.{how, is_open, task}
 use Rattle.cv_desk.specs.Desks.{History, state, Notes}
+use Rattle.cv_desk.specs.declared.errors.ClaimError.{ClaimError}
+use Rattle.cv_desk.specs.declared.errors.ClaimError.TheVariants as claim_error
 use Rattle.cv_desk.specs.Answers.{IsOfJob}
 use Rattle.cv_script.specs.declared.script.Numbered.{Numbered}
 use Rattle.cv_session.specs.declared.seat.HeldTask.{HeldTask}
@@ -24,6 +26,10 @@ use Rattle.cv_session.specs.HeldLaws.{Owes}
 use Rattle.cv_session.specs.Seats.{Seat, now, task_of, tasks_of, IsHeldOf, Moves}
 
 -- ---- a claim
+
+-- the job of the task that got no memory
+abbrev pub failed_job : ClaimError → ℕ
+failed_job (claim_error.NoMemory j) = j
 
 -- caller 0 claimed a task by an act of these histories, and holds more
 pub record ClaimsMore (old new : History) (a : Act) (more : List HeldTask) : Type 0 where
@@ -72,6 +78,7 @@ pub record ServesFirst (old new : Seat) : Type 0 where
   pub rest : List Task
   pub was : tasks_of old ≡ first ∷ rest
   pub becomes : tasks_of new ≡ rest
+  pub held : new.held ≡ drop 1 old.held
   pub served : Served old.history new.history first
   pub refused : new.refused ≡ old.refused
 
