@@ -33,7 +33,7 @@ use Rattle.cv_event.proofs.FitLemmas.{jobs_have_few_slots}
 use Rattle.cv_event.proofs.ShownLemmas.{preview_lists_ready, published_is_last_finished}
 use Rattle.cv_event.proofs.DueLemmas.{canvases_stay}
 use Rattle.cv_tables.specs.Rows.{Row, row_in, job_of, compose_of, whole_of}
-use Rattle.cv_tables.specs.Tabs.{Tab, PublishedJob, taken_in, canvas_of, state_of}
+use Rattle.cv_tables.specs.Tabs.{Tab, PublishedJob, taken_in, canvas_of}
 use Rattle.cv_store.specs.Stores.{project_of}
 use Rattle.cv_desk.specs.Desks.{History, state, Notes, Stays}
 use Rattle.cv_desk.specs.Answers.{PreviewAnswer, SaveAnswer, SaveNotes}
@@ -48,7 +48,7 @@ use Rattle.cv_script.specs.declared.script.Numbered.{Numbered}
 use Rattle.cv_session.specs.declared.outputs.Stop.{Stop}
 use Rattle.cv_session.specs.declared.outputs.Stop.TheVariants as stop
 use Rattle.cv_session.specs.Responses.{Response, Refuses as Denies, held_by, last_job, at_job, unless_ended, ended_reason, ready_of, saves, response}
-use Rattle.cv_session.specs.Plays.{Begins, Written, Play, due_in, refusals, picture_by, file_of, file_with, Plays}
+use Rattle.cv_session.specs.Plays.{Written, Play, refusals, picture_by, file_of, file_with, Plays}
 use Rattle.cv_session.specs.Entered.{MayAct}
 use Rattle.cv_session.specs.Files.{Puts, Breaks, IsOther, Spares, SparesOne}
 use Rattle.cv_session.specs.declared.report.Report.{Report}
@@ -56,11 +56,11 @@ use Rattle.cv_session.specs.Follows.{at_first, IsThrough, IsBefore}
 use Rattle.cv_session.specs.Writes.{is_refused, writes}
 use Rattle.cv_session.specs.Reports.{reported, RunDone, RunBroken}
 use Rattle.cv_session.specs.Outputs.{IsPut, PreviewEnters, SaveEnters, RefusedWrite, Done, CommandEnds}
-use Rattle.cv_session.specs.Seats.{Seat, now, task_of, tasks_of, IsSeat, Enters, Stands, play_of, Obeys}
+use Rattle.cv_session.specs.Seats.{Seat, now, task_of, tasks_of, IsSeat, Enters, Stands, Obeys}
 use Rattle.cv_session.proofs.PlayLemmas.{same_some, joined}
 use Rattle.cv_session.proofs.WriteLemmas.{last_is_there, name_there, not_refused_yet, files_are_writes}
 use Rattle.cv_session.proofs.SeatLemmas.{seat_goes_on, seat_stands}
-use Rattle.cv_session.proofs.MoveLemmas.{behind, denies}
+use Rattle.cv_session.proofs.MoveLemmas.{declines_behind, denies}
 use Rattle.cv_session.proofs.ObeyLemmas.{enters, no_canvas, no_job}
 
 -- ---- files of a tray
@@ -133,40 +133,12 @@ no_files old new line c tray o = record { files = []; obeys = o; count = refl; p
 
 -- ---- refused commands
 
--- what was played behind a call that entered nothing was played
-pub after_stands : (old mid new : Seat) (line : ℕ) (c : Command) (files : List Written) → Stands old mid → Obeys mid new line c files
-    → Obeys old new line c files
-after_stands old mid new line c files s o rest =
-    let m = o rest in
-    record {
-      entries = m.entries;
-      opening = m.opening ∙ s.stays.opening;
-      journal = m.journal ∙ ap (λ (es : List Entry). es ++ m.entries) s.stays.journal;
-      plays = λ before. subst (λ (p : Play). Plays 0 p m.entries (play_of Begins rest (before ++ files) new)) (same before) (m.plays before);
-    }
-  where
-    same : (before : List Written) → play_of Begins (behind line c rest) before mid ≡ play_of Begins (behind line c rest) before old
-    same before = λ i. record {
-      read = length (s.stays.journal i);
-      state = at_state i;
-      known = at_state i;
-      due = due_in (at_state i);
-      held = map task_of (s.held i);
-      mode = Begins;
-      commands = behind line c rest;
-      refused = s.refused i;
-      written = before;
-    }
-      where
-        at_state : now mid ≡ now old
-        at_state = ap state_of s.stays.tables
-
 refused_ends : (old mid new : Seat) (line : ℕ) (c : Command) (why : Reason) (r : Result ℕ Stop) (tray : TraySeen)
-    → response (now mid) (length (tasks_of mid)) c ≡ Denies why → Stands old mid → RefusedWrite mid new line why r
+    → response (now old) (length (tasks_of old)) c ≡ Denies why → Stands old mid → RefusedWrite mid new line why r
     → CommandEnds old new line c r tray tray
 refused_ends old mid new line c why (Ok n) tray d s f = record {
   files = [];
-  obeys = after_stands old mid new line c [] s (denies mid new line c why d f.1);
+  obeys = denies old new line c why d (declines_behind old mid new line why s f.1);
   count = f.0;
   puts = λ t q. refl;
 }
@@ -430,22 +402,19 @@ pub preview_ended : (old mid new : Seat) (line c j : ℕ) (h : How) (file : List
     → CommandEnds old new line (command.Preview c file) r tray tray
 preview_ended old mid new line c j h file r tray there last e s f =
     refused_ends old mid new line (command.Preview c file) (ended_reason h) r tray
-    (subst (λ (x : State). response x (length (tasks_of mid)) (command.Preview c file) ≡ Denies (ended_reason h)) (sym (ap state_of s.stays.tables))
-        (ended_job (now old) c j h (λ k. act.Preview k (ready_of (now old) k)) there last e)) s f
+    (ended_job (now old) c j h (λ k. act.Preview k (ready_of (now old) k)) there last e) s f
 
 pub save_no_canvas : (old mid new : Seat) (line c : ℕ) (file : List ℕ) (r : Result ℕ Stop) (tray : TraySeen) → SaveEnters old mid c (Err save_error.UnknownCanvas)
     → Stands old mid → RefusedWrite mid new line reason.UnknownCanvas r → CommandEnds old new line (command.Save c file) r tray tray
 save_no_canvas old mid new line c file r tray h s f =
     refused_ends old mid new line (command.Save c file) reason.UnknownCanvas r tray
-    (subst (λ (x : State). response x (length (tasks_of mid)) (command.Save c file) ≡ Denies reason.UnknownCanvas) (sym (ap state_of s.stays.tables))
-        (no_canvas (now old) c _ h)) s f
+    (no_canvas (now old) c _ h) s f
 
 pub save_nothing : (old mid new : Seat) (line c : ℕ) (file : List ℕ) (r : Result ℕ Stop) (tray : TraySeen) → SaveEnters old mid c (Err save_error.Nothing)
     → Stands old mid → RefusedWrite mid new line reason.Nothing r → CommandEnds old new line (command.Save c file) r tray tray
 save_nothing old mid new line c file r tray h s f =
     refused_ends old mid new line (command.Save c file) reason.Nothing r tray
-    (subst (λ (x : State). response x (length (tasks_of mid)) (command.Save c file) ≡ Denies reason.Nothing) (sym (ap state_of s.stays.tables))
-        (by_canvas (slice_get (now old).canvases c) h)) s f
+    (by_canvas (slice_get (now old).canvases c) h) s f
   where
     by_canvas : (o : Option Canvas) → IsSomeAnd o (λ (k : Canvas). k.published ≡ None)
         → option_map_or (λ (k : Canvas). option_map_or (saves c) k.published (Denies reason.Nothing)) o (Denies reason.UnknownCanvas) ≡ Denies reason.Nothing

@@ -1,6 +1,6 @@
 //! The commands that write pictures: a preview of a job, and the picture of the last that was finished.
 
-ghost use Rattle.std.specs.Prelude.{◌≡◌, Some, slice_get, OnErr, IfOk, IsSome, IsTrue};
+ghost use Rattle.std.specs.Prelude.{◌≡◌, ◌≤◌, Some, slice_get, OnErr, IfOk, IsSome, IsTrue};
 ghost use Rattle.cv_model.specs.Paintings.{composed};
 ghost use Rattle.cv_model.specs.Rasters.{ppm_of};
 ghost use Rattle.cv_event.specs.TextLaws.{FitsOpening};
@@ -33,6 +33,7 @@ pub(crate) enum Stop {
 /// Puts a picture's bytes into the tray. Answers how many files were put.
 fn put<T: Tray>(tray: &mut T, file: &Text, bytes: &[u8]) -> Result<u32, Stop>
     ensures stands { TrayStands (tray_seen T.Tray tray.old) (tray_seen T.Tray tray.new) }
+    ensures few { IfOk result (λ n. n ≤ 1) }
     ensures put { IsPut (record { name = file.now; bytes = bytes.now }) result
         (tray_seen T.Tray tray.old) (tray_seen T.Tray tray.new) }
 {
@@ -73,7 +74,8 @@ impl Session {
 
     /// Refuses a command that may write a file.
     fn refuse_write(&mut self, line: u32, reason: Reason) -> Result<u32, Stop>
-        ensures { RefusedWrite self.old self.new line reason result }
+        ensures few { IfOk result (λ n. n ≤ 1) }
+        ensures refused { RefusedWrite self.old self.new line reason result }
     {
         match self.refuse(line, reason) {
             Ok(()) => Ok(0),
@@ -94,6 +96,7 @@ impl Session {
         requires there { IsSome (slice_get (now self.old).canvases canvas) }
         requires last { last_job (now self.old) canvas ≡ Some job }
         ensures stands { TrayStands (tray_seen T.Tray tray.old) (tray_seen T.Tray tray.new) }
+        ensures few { IfOk result (λ n. n ≤ 1) }
         ensures ends { CommandEnds self.old self.new line (command.Preview canvas file.now) result
             (tray_seen T.Tray tray.old) (tray_seen T.Tray tray.new) }
         ensures spares { IsTrue (tray_seen T.Tray tray.old).tells → SparesOne (command.Preview canvas file.now)
@@ -122,6 +125,7 @@ impl Session {
     ) -> Result<u32, Stop>
         requires { FitsOpening self.old.history.opening }
         ensures stands { TrayStands (tray_seen T.Tray tray.old) (tray_seen T.Tray tray.new) }
+        ensures few { IfOk result (λ n. n ≤ 1) }
         ensures ends { CommandEnds self.old self.new line (command.Preview canvas file.now) result
             (tray_seen T.Tray tray.old) (tray_seen T.Tray tray.new) }
         ensures spares { IsTrue (tray_seen T.Tray tray.old).tells → SparesOne (command.Preview canvas file.now)
@@ -143,6 +147,7 @@ impl Session {
         tray: &mut T,
     ) -> Result<u32, Stop>
         ensures stands { TrayStands (tray_seen T.Tray tray.old) (tray_seen T.Tray tray.new) }
+        ensures few { IfOk result (λ n. n ≤ 1) }
         ensures ends { CommandEnds self.old self.new line (command.Save canvas file.now) result
             (tray_seen T.Tray tray.old) (tray_seen T.Tray tray.new) }
         ensures spares { IsTrue (tray_seen T.Tray tray.old).tells → SparesOne (command.Save canvas file.now)

@@ -11,13 +11,13 @@ pub returns-in-Err-UnknownCanvas-clause-ends : goal.returns-in-Err-UnknownCanvas
 returns-in-Err-UnknownCanvas-clause-ends g c =
     save_no_canvas c.args.self.now c.published.new.self c.refuse_write.new.self c.args.line c.args.canvas c.args.file.now c.refuse_write.result (tray_seen g.T.Tray c.args.tray.now)
     (subst (λ e. SaveEnters c.args.self.now c.published.new.self c.args.canvas (Err e)) c.in-Err-UnknownCanvas.field-0-is c.in-Err-UnknownCanvas.ensures.enters)
-    c.in-Err-UnknownCanvas.ensures.err c.refuse_write.ensures
+    c.in-Err-UnknownCanvas.ensures.err c.refuse_write.ensures.refused
 
 pub returns-in-Err-Nothing-clause-ends : goal.returns-in-Err-Nothing-clause-ends
 returns-in-Err-Nothing-clause-ends g c =
     save_nothing c.args.self.now c.published.new.self c.refuse_write-in-Err-Nothing.new.self c.args.line c.args.canvas c.args.file.now c.refuse_write-in-Err-Nothing.result (tray_seen g.T.Tray c.args.tray.now)
     (subst (λ e. SaveEnters c.args.self.now c.published.new.self c.args.canvas (Err e)) c.in-Err-Nothing.field-0-is c.in-Err-Nothing.ensures.enters)
-    c.in-Err-Nothing.ensures.err c.refuse_write-in-Err-Nothing.ensures
+    c.in-Err-Nothing.ensures.err c.refuse_write-in-Err-Nothing.ensures.refused
 
 pub returns-clause-ends : goal.returns-clause-ends
 returns-clause-ends g c =

@@ -14,7 +14,7 @@ returns-in-Err-Ended-clause-ends g c =
     c.requires.there c.requires.last
     (subst (λ e. PreviewEnters c.args.self.now c.preview.new.self c.args.job (Err e)) c.in-Err-Ended.field-0-is c.in-Err-Ended.ensures.enters)
     c.in-Err-Ended.ensures.err
-    (subst (λ why. RefusedWrite c.preview.new.self c.refuse_write.new.self c.args.line why c.refuse_write.result) c.ended_reason.ensures c.refuse_write.ensures)
+    (subst (λ why. RefusedWrite c.preview.new.self c.refuse_write.new.self c.args.line why c.refuse_write.result) c.ended_reason.ensures c.refuse_write.ensures.refused)
 
 pub unreachable-requires : goal.unreachable-requires
 unreachable-requires g c =
