@@ -27,6 +27,8 @@ use Rattle.cv_session.proofs.PlayLemmas.{same_some}
 use Rattle.cv_session.specs.HeldLaws.{HoldsTasks}
 use Rattle.cv_session.specs.Covered.{Covers}
 use Rattle.cv_session.proofs.SeatLemmas.{AreSized, size_stays}
+use Rattle.cv_session.specs.Tasks.{Gives}
+use Rattle.cv_session.proofs.ServeLemmas.{closes_all}
 use Rattle.cv_session.proofs.MoveLemmas.{longer, stay_put, go_on, by_quiet, by_own}
 use Rattle.cv_session.proofs.OutputLemmas.{puts_more}
 
@@ -162,8 +164,10 @@ through_more cs a b d n rest images more t u v f same g = record {
 
 -- ---- the end
 
-pub closes : (old new : Seat) → Moves Closes [] old Closes [] new [] → new.held ≡ [] → Ends old new
-closes old new m h = record {
-  moves = go_on Begins Closes Closes [] [] [] old old new [] [] (by_quiet Begins Closes [] [] old old refl (λ before. refl)) m;
-  none = h;
-}
+-- what follows of two facts of an answer
+pub both_ok : {A E : Type 0} {P Q S : Type 0} (r : Result A E) → (P → Q → S) → OnOk r P → OnOk r Q → OnOk r S
+both_ok (Ok x) f p q = f p q
+both_ok (Err e) f p q = tt
+
+pub ends_with : (old new : Seat) → Gives old new → new.held ≡ [] → Ends old new
+ends_with old new g h = record { moves = closes_all old new g; none = h }

@@ -45,6 +45,13 @@ fn told(answer: Result<(), NoMemory>) -> Result<u32, Stop>
     }
 }
 
+/// By how many pixels a view is moved.
+fn step(pixels: &i32) -> i32
+    ensures { result ≡ pixels.now }
+{
+    *pixels
+}
+
 /// How canvases are made, for a session to keep.
 fn sizes(alloc: Global, specs: &[CanvasSpec]) -> Result<Vec<CanvasSpec>, NoMemory>
     ensures { IfOk result (λ v. v.items ≡ specs.now) }
@@ -122,7 +129,11 @@ impl Session {
     {
         match command {
             Command::View { canvas, extent } => self.play_view(line, *canvas, *extent),
-            Command::Pan { canvas, dx, dy } => self.play_pan(line, *canvas, *dx, *dy),
+            Command::Pan { canvas, dx, dy } => {
+                let dx = step(dx);
+                let dy = step(dy);
+                self.play_pan(line, *canvas, dx, dy)
+            }
             Command::Zoom { canvas, num, den } => self.play_zoom(line, *canvas, *num, *den),
             Command::Start { canvas } => self.play_start(line, *canvas),
             Command::Cancel { canvas } => self.play_cancel(line, *canvas),
