@@ -15,4 +15,5 @@ mod tasks;
 mod views;
 
 pub use report::{Report, SessionError};
+pub use run::run_alone;
 

@@ -208,3 +208,44 @@ impl Session {
         }
     }
 }
+
+/// Plays a script on the caller's thread: gives the canvases their first views, plays the commands in order,
+/// and does the tasks that are held behind the last one. It waits for nobody.
+///
+/// The report has the journal, the refused commands, and how many pictures were written. Where the tray fails
+/// to write a picture, the error has its number, counted from 1, and the report of what was done until then.
+pub fn run_alone<T: Tray>(
+    alloc: Global,
+    store: Store,
+    specs: &[CanvasSpec],
+    views: &[Option<View>],
+    script: &Script,
+    tray: &mut T,
+) -> Result<Report, SessionError>
+    requires first { store.version ≡ 1 }
+    requires fits { FitsOpening (record { project = project_of store; canvases = specs.now }) }
+    requires views { AreFirst specs.now views.now }
+    requires script { IsScript script.now }
+    ensures stands { TrayStands (tray_seen T.Tray tray.old) (tray_seen T.Tray tray.new) }
+    ensures ends { RunEnds (record { project = project_of store; canvases = specs.now }) views.now script.now
+        result (tray_seen T.Tray tray.old) (tray_seen T.Tray tray.new) }
+    ensures spares { IsTrue (tray_seen T.Tray tray.old).tells → Spares script.now
+        (tray_seen T.Tray tray.old).files (tray_seen T.Tray tray.new).files }
+{
+    let mut session = match Session::open(alloc, store, specs) {
+        Ok(session) => session,
+        Err(_) => return Err(SessionError::NoMemory),
+    };
+    match session.first_views(views) {
+        Ok(()) => {}
+        Err(_) => return Err(SessionError::NoMemory),
+    }
+    match session.play_all(script.commands(), tray) {
+        Ok(images) => match session.end() {
+            Ok(()) => Ok(session.into_report(images)),
+            Err(_) => Err(SessionError::NoMemory),
+        },
+        Err(Halt::Tray(image)) => Err(SessionError::Tray(image, session.into_report(image - 1))),
+        Err(Halt::NoMemory) => Err(SessionError::NoMemory),
+    }
+}
