@@ -1,5 +1,5 @@
 -- Each way through a command, over plain seats.
-use Rattle.std.proofs.Common.{◌≡◌, refl, ap, sym, ◌∙◌, subst, ◌≤◌, ◌<◌, ℕ, suc, ◌==◌, ◌+◌, nat_lt, nat_le, Bool, true, false, if◌then◌else◌, List, [], ◌∷◌, ◌++◌, map, length, slice_get, Option, Some, None, is_some, option_map, option_and_then, option_to_list, arith, IsSome, IsNone, IsSomeAnd, Result, Ok, Err, OnOk}
+use Rattle.std.proofs.Common.{◌≡◌, refl, ap, sym, ◌∙◌, subst, ◌<◌, ℕ, suc, ◌==◌, ◌+◌, nat_lt, Bool, true, false, if◌then◌else◌, List, [], ◌∷◌, ◌++◌, map, length, slice_get, Option, Some, None, is_some, option_map, option_and_then, option_to_list, arith, IsSome, IsNone, IsSomeAnd, Result, Ok, Err, OnOk}
 use Rattle.std.specs.Option.{option_map_or, option_or}
 use Rattle.std.proofs.lemmas.List.{append-nil, map-append}
 use Rattle.std.proofs.lemmas.Bool.{false≢true}
@@ -7,13 +7,11 @@ use Rattle.std.proofs.lemmas.Bool.Decides.{nat_tests}
 use Rattle.cv_model.specs.declared.edit.Edit.{Edit}
 use Rattle.cv_model.specs.declared.edit.EditError.{EditError}
 use Rattle.cv_model.specs.Views.{PixelGrid}
-use Rattle.cv_model.specs.Edits.{verdict}
 use Rattle.cv_event.specs.declared.entry.Act.{Act}
 use Rattle.cv_event.specs.declared.entry.Act.TheVariants as act
 use Rattle.cv_event.specs.declared.entry.How.{How}
 use Rattle.cv_event.specs.declared.refused.Reason.{Reason}
 use Rattle.cv_event.specs.declared.refused.Reason.TheVariants as reason
-use Rattle.cv_event.specs.declared.entry.How.TheVariants as how_of
 use Rattle.cv_event.specs.States.{Job, Canvas, State, view_on, job_in, did}
 use Rattle.cv_event.specs.Legality.{OfJob, how}
 use Rattle.cv_script.specs.declared.script.Command.{Command}
@@ -25,11 +23,11 @@ use Rattle.cv_session.specs.declared.seat.HeldTask.{HeldTask}
 use Rattle.cv_desk.specs.Desks.{History, Notes}
 use Rattle.cv_event.specs.declared.refused.Refused.{Refused}
 use Rattle.cv_event.specs.declared.slot.Task.{Task}
-use Rattle.cv_session.specs.Seats.{Seat, now, task_of, tasks_of, Enters, Stands, Refuses, Obeys}
+use Rattle.cv_session.specs.Seats.{Seat, now, task_of, tasks_of, Enters, Refuses, Obeys}
 use Rattle.cv_session.proofs.PlayLemmas.{same_some}
 use Rattle.cv_session.proofs.EnteredLemmas.{act_planned}
 use Rattle.cv_session.proofs.WriteLemmas.{no_file_written}
-use Rattle.cv_session.proofs.MoveLemmas.{Leaves, longer, does, Declines, declines, declines_behind, denies}
+use Rattle.cv_session.proofs.MoveLemmas.{Leaves, longer, does, Declines, denies}
 
 -- what follows of an answer
 pub on_ok : {A E : Type 0} {P Q : Type 0} (r : Result A E) → (P → Q) → OnOk r P → OnOk r Q

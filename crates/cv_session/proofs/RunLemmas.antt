@@ -1,8 +1,8 @@
 -- How a session begins, and how it plays a whole script.
-use Rattle.std.proofs.Common.{◌≡◌, inl, inr, ⊎_elim, refl, ap, sym, ◌∙◌, subst, ◌≤◌, ◌<◌, ℕ, zero, suc, ◌+◌, ◌-◌, Bool, true, false, if◌then◌else◌, List, [], ◌∷◌, ◌++◌, map, length, take, drop, get_or, replicate, slice_get, Option, Some, None, is_some, option_map, option_and_then, option_to_list, arith, IsSome, IsSomeAnd, IfSome, IsTrue, Result, Ok, Err, OnOk, append_assoc}
+use Rattle.std.proofs.Common.{◌≡◌, inl, inr, ⊎_elim, refl, ap, sym, ◌∙◌, subst, ◌≤◌, ◌<◌, ℕ, zero, suc, ◌+◌, ◌-◌, List, [], ◌∷◌, ◌++◌, map, length, take, drop, get_or, replicate, slice_get, Option, Some, None, option_map, option_and_then, arith, IsSomeAnd, IfSome, IsTrue, Result, Ok, Err, OnOk}
 use Rattle.std.specs.List.{AllByRecursion}
 use Rattle.std.specs.List.{AllZip}
-use Rattle.std.proofs.lemmas.List.{append-nil, length-append, drop_more, drop_all, take-append-drop}
+use Rattle.std.proofs.lemmas.List.{append-nil, length-append, drop_more, take-append-drop}
 use Rattle.std.proofs.lemmas.List.Elements.{All-get_or}
 use Rattle.std.proofs.lemmas.Slice.Zip.{AllZip-long}
 use Rattle.cv_model.specs.declared.project.CanvasSpec.{CanvasSpec}
@@ -14,18 +14,14 @@ use Rattle.cv_event.specs.TextLaws.{FitsOpening}
 use Rattle.cv_event.specs.declared.entry.Act.{Act}
 use Rattle.cv_event.specs.declared.entry.Act.TheVariants as act
 use Rattle.cv_event.specs.declared.entry.Entry.{Entry}
-use Rattle.cv_event.specs.declared.slot.Task.{Task}
 use Rattle.cv_event.specs.Legality.{IsLegal}
-use Rattle.cv_event.specs.States.{Job, Canvas, State, job_in, view_on, new_canvas, begin, did}
-use Rattle.cv_desk.specs.Desks.{History, state, Notes}
-use Rattle.cv_script.specs.declared.script.Command.{Command}
+use Rattle.cv_event.specs.States.{Job, Canvas, State, job_in, new_canvas, begin}
 use Rattle.cv_script.specs.declared.script.Numbered.{Numbered}
 use Rattle.cv_script.specs.Scripts.{IsScript, HasFactors}
 use Rattle.cv_session.specs.Responses.{last_job}
-use Rattle.cv_session.specs.Plays.{Mode, Opens, Begins, Closes, Written, Play, due_in, turned, silent, planned, entered, next, entry_by, Plays, stops, quiet, own}
+use Rattle.cv_session.specs.Plays.{Opens, Begins, Closes, Written, Play, due_in, next, Plays}
 use Rattle.cv_session.specs.Follows.{at_first}
-use Rattle.cv_session.specs.Seats.{Seat, now, task_of, tasks_of, IsHeldOf, canvas_spec, IsOfSize, IsSeat, Enters, play_of, Moves, Obeys}
-use Rattle.cv_session.specs.Files.{Puts}
+use Rattle.cv_session.specs.Seats.{Seat, now, task_of, tasks_of, IsHeldOf, canvas_spec, IsOfSize, IsSeat, Enters, play_of, Moves}
 use Rattle.cv_session.specs.Outputs.{Done, Broken}
 use Rattle.cv_session.specs.Runs.{IsOpened, ShowsFirst, SizesStay, AreOfSize, ShowsAll, Through, Cut, Ends}
 use Rattle.cv_session.proofs.PlayLemmas.{same_some}
@@ -37,7 +33,7 @@ use Rattle.cv_session.proofs.ServeLemmas.{closes_all}
 use Rattle.cv_session.proofs.MoveLemmas.{longer, stay_put, go_on, by_quiet, by_own}
 use Rattle.cv_session.specs.declared.report.Report.{Report}
 use Rattle.cv_session.specs.Reports.{FitsSize, RunDone, RunBroken}
-use Rattle.cv_session.proofs.OutputLemmas.{puts_more, run_done, IsCut, run_broken}
+use Rattle.cv_session.proofs.OutputLemmas.{puts_more, run_done, run_broken}
 
 -- ---- places of lists
 

@@ -1,11 +1,10 @@
 -- What a session keeps behind the calls of its desk.
-use Rattle.std.proofs.Common.{◌≡◌, refl, ap, sym, ◌∙◌, subst, ◌≤◌, ◌<◌, ℕ, zero, suc, ◌==◌, ◌+◌, Bool, true, false, if◌then◌else◌}
+use Rattle.std.proofs.Common.{◌≡◌, refl, ap, sym, ◌∙◌, subst, ℕ, zero, suc, ◌==◌, ◌+◌, Bool, true, false, if◌then◌else◌}
 use Rattle.std.proofs.Common.{List, [], ◌∷◌, ◌++◌, map, length, set, slice_get, Option, Some, None, is_some, option_map, option_and_then, arith, IsSomeAnd, Result, Ok, Err, OnOk, OnErr}
 use Rattle.std.specs.List.{AllByRecursion}
 use Rattle.std.specs.Option.{option_or}
 use Rattle.std.proofs.lemmas.List.{append-nil, map-append, length-map}
-use Rattle.std.proofs.lemmas.Bool.{false≢true, true≢false, eqb-true}
-use Rattle.std.proofs.lemmas.Bool.Decides.{nat_tests}
+use Rattle.std.proofs.lemmas.Bool.{true≢false, eqb-true}
 use Rattle.cv_model.specs.declared.edit.Edit.{Edit}
 use Rattle.cv_model.specs.declared.edit.EditError.{EditError}
 use Rattle.cv_model.specs.declared.edit.EditError.TheVariants as error
@@ -14,7 +13,6 @@ use Rattle.cv_model.specs.Views.{PixelGrid, IsView}
 use Rattle.cv_model.specs.declared.project.CanvasSpec.{CanvasSpec}
 use Rattle.cv_event.specs.declared.entry.Act.{Act}
 use Rattle.cv_event.specs.declared.entry.Act.TheVariants as act
-use Rattle.cv_event.specs.declared.entry.How.{How}
 use Rattle.cv_event.specs.declared.entry.How.TheVariants.{Cancelled, Finished, NoMemory}
 use Rattle.cv_event.specs.declared.slot.Task.{Task}
 use Rattle.cv_event.specs.States.{Job, Canvas, State, change_at, change_job, job_edited, cancelled_on, new_job, started, stands_at, composed_by, with_end, looked, delivered, view_on, did}
@@ -26,7 +24,7 @@ use Rattle.cv_event.proofs.TakenLemmas.{view_one}
 use Rattle.cv_event.proofs.ShownLemmas.{presence, presence_seen, IsSeen, settled_one}
 use Rattle.cv_tables.specs.Rows.{Row, row_in, whole_of}
 use Rattle.cv_tables.specs.Tabs.{Tables, state_of}
-use Rattle.cv_desk.specs.Desks.{History, state, KeepJobs, Notes, Stays, basis_of}
+use Rattle.cv_desk.specs.Desks.{History, KeepJobs, Notes, Stays}
 use Rattle.cv_desk.specs.Answers.{EditNotes}
 use Rattle.cv_desk.proofs.BasisLemmas.{jobs_same, basis_stays, piece_stays, whole_stays}
 use Rattle.cv_session.specs.declared.seat.HeldTask.{HeldTask}

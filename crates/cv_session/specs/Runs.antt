@@ -1,7 +1,7 @@
 -- How a session begins, and how it plays a whole script.
 --
 -- Source: this project's own.
-use Rattle.std.specs.Prelude.{◌≡◌, ℕ, suc, List, [], ◌∷◌, ◌++◌, ◌≤◌, length, slice_get, Option, Some, None, Result, Ok, Err, IsTrue}
+use Rattle.std.specs.Prelude.{◌≡◌, ℕ, suc, List, [], ◌∷◌, ◌++◌, ◌≤◌, length, slice_get, Option, Some, Result, Ok, Err, IsTrue}
 use Rattle.cv_model.specs.Layers.{Opening}
 use Rattle.cv_model.specs.Views.{PixelGrid}
 use Rattle.cv_outside.specs.Seen.{TraySeen}

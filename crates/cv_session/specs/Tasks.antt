@@ -1,11 +1,10 @@
 -- How a session claims and does tasks.
 --
 -- Source: this project's own.
-use Rattle.std.specs.Prelude.{◌≡◌, ◌<◌, ◌+◌, ℕ, suc, true, if◌then◌else◌, List, [], ◌∷◌, ◌++◌, map, drop, Some, None, is_some, IsSome, IsSomeAnd}
+use Rattle.std.specs.Prelude.{◌≡◌, ◌<◌, ◌+◌, ℕ, true, if◌then◌else◌, List, [], ◌∷◌, ◌++◌, map, drop, None, is_some, IsSome, IsSomeAnd}
 use Rattle.std.specs.List.{AllByRecursion}
 use Rattle.cv_event.specs.declared.entry.Act.{Act}
 use Rattle.cv_event.specs.declared.entry.Act.TheVariants as act
-use Rattle.cv_event.specs.declared.entry.How.{How}
 use Rattle.cv_event.specs.declared.slot.Slot.{Slot}
 use Rattle.cv_event.specs.declared.slot.Task.{Task}
 use Rattle.cv_event.specs.declared.slot.Task.TheVariants as task_is

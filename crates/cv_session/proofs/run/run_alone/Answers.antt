@@ -1,4 +1,3 @@
-use Rattle.std.proofs.Common.{◌≡◌, refl, sym, ap, ◌∙◌, subst, List, [], ◌∷◌, ◌+◌, ◌≤◌, Option, Some, None, slice_get, IsTrue, arith}
 use Rattle.cv_outside.specs.Seen.{tray_seen}
 use Rattle.cv_store.specs.Stores.{project_of}
 use Rattle.cv_session.specs.Seats.{now}

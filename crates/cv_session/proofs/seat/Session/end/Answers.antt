@@ -1,5 +1,3 @@
-use Rattle.std.proofs.Common.{◌≡◌, refl, sym, ap, ◌∙◌, subst, List, [], ◌∷◌, Option, Some, None}
-use Rattle.cv_session.proofs.ObeyLemmas.{on_ok}
 use Rattle.cv_session.proofs.RunLemmas.{both_ok, ends_with}
 use Rattle.cv_session.proofs.seat.Session.end.Goals as goal
 

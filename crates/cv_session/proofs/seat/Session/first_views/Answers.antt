@@ -1,7 +1,6 @@
-use Rattle.std.proofs.Common.{◌≡◌, refl, sym, ap, ◌∙◌, subst, List, [], ◌∷◌, Option, Some, None, ◌+◌, slice_get}
+use Rattle.std.proofs.Common.{refl, ap, ◌∙◌, ◌+◌, slice_get}
 use Rattle.std.proofs.lemmas.List.{drop_all}
 use Rattle.cv_session.specs.Seats.{now}
-use Rattle.cv_session.proofs.ObeyLemmas.{on_ok}
 use Rattle.cv_session.proofs.MoveLemmas.{stay_put}
 use Rattle.cv_session.proofs.RunLemmas.{item_at, first_size, shows_next, shows_all}
 use Rattle.cv_session.specs.Plays.{Opens}

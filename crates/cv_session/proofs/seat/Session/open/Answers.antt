@@ -1,7 +1,5 @@
-use Rattle.std.proofs.Common.{◌≡◌, refl, sym, ap, ◌∙◌, subst, List, [], ◌∷◌, Option, Some, None}
+use Rattle.std.proofs.Common.{ap, ◌∙◌}
 use Rattle.cv_event.specs.States.{begin}
-use Rattle.cv_session.proofs.ObeyLemmas.{on_ok}
-use Rattle.cv_session.proofs.MoveLemmas.{stay_put}
 use Rattle.cv_session.proofs.RunLemmas.{seat_opened}
 use Rattle.cv_store.specs.Stores.{project_of}
 use Rattle.cv_session.proofs.seat.Session.open.Goals as goal

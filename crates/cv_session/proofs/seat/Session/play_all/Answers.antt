@@ -1,7 +1,7 @@
-use Rattle.std.proofs.Common.{◌≡◌, refl, sym, ap, ◌∙◌, subst, List, [], ◌∷◌, ◌+◌, ◌≤◌, Option, Some, None, slice_get, IsTrue, arith}
+use Rattle.std.proofs.Common.{refl, sym, subst, IsTrue, arith}
 use Rattle.cv_outside.specs.Seen.{tray_seen}
 use Rattle.cv_session.proofs.OutputLemmas.{spares_more}
-use Rattle.cv_session.proofs.RunLemmas.{item_at, through_none, through_next, fits_next, factors_at, cut_at, stands_on, stands_still}
+use Rattle.cv_session.proofs.RunLemmas.{item_at, through_none, through_next, fits_next, factors_at, stands_on, stands_still}
 use Rattle.cv_session.proofs.seat.Session.play_all.Goals as goal
 
 pub loop-next-init : goal.loop-next-init

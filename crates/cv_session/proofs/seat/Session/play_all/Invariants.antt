@@ -1,5 +1,5 @@
 -- The commands so far are through, and so many files were put.
-use Rattle.std.proofs.Common.{◌≡◌, ◌≤◌, [], drop, length, List, IsTrue}
+use Rattle.std.proofs.Common.{◌≤◌, drop, IsTrue}
 use Rattle.cv_event.specs.TextLaws.{FitsOpening}
 use Rattle.cv_outside.specs.Seen.{tray_seen, TrayStands}
 use Rattle.cv_script.specs.Scripts.{IsScript}

@@ -1,4 +1,4 @@
-use Rattle.std.proofs.Common.{◌≡◌, sym, ◌∙◌, subst, [], w32, OnOk}
+use Rattle.std.proofs.Common.{sym, ◌∙◌, subst, [], w32, OnOk}
 use Rattle.std.proofs.lemmas.Int.{to_z-of_z}
 use Rattle.cv_script.specs.declared.script.Command.TheVariants as command
 use Rattle.cv_session.specs.Seats.{Obeys}

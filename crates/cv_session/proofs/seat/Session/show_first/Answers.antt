@@ -1,4 +1,4 @@
-use Rattle.std.proofs.Common.{◌≡◌, refl, sym, ap, ◌∙◌, subst, List, [], ◌∷◌, Option, Some, None, OnOk}
+use Rattle.std.proofs.Common.{sym, subst, OnOk}
 use Rattle.cv_event.specs.declared.entry.Act.TheVariants as act
 use Rattle.cv_session.specs.Runs.{ShowsFirst}
 use Rattle.cv_session.proofs.ObeyLemmas.{on_ok}
