@@ -17,3 +17,6 @@ mod views;
 pub use report::{Report, SessionError};
 pub use run::run_alone;
 
+
+#[cfg(test)]
+mod tests;
