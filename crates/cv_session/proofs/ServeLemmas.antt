@@ -3,7 +3,7 @@ use Rattle.std.proofs.Common.{◌≡◌, ◌⊎◌, inl, inr, refl, ap, sym, ◌
 use Rattle.std.proofs.Common.{List, [], ◌∷◌, ◌++◌, map, length, drop, slice_get, Option, Some, None, is_some, option_map, option_and_then, option_to_list, arith, IsSome, IsSomeAnd}
 use Rattle.std.specs.List.{list_any}
 use Rattle.std.specs.Option.{option_map_or}
-use Rattle.std.proofs.lemmas.List.{append-nil, map-append, length-map}
+use Rattle.std.proofs.lemmas.List.{append-nil, length-map}
 use Rattle.std.proofs.lemmas.Bool.{false≢true, true≢false}
 use Rattle.std.proofs.lemmas.Bool.Decides.{nat_tests}
 use Rattle.cv_event.specs.declared.entry.Act.{Act}
@@ -15,22 +15,21 @@ use Rattle.cv_event.specs.declared.refused.Refused.{Refused}
 use Rattle.cv_event.specs.declared.slot.Task.{Task}
 use Rattle.cv_event.specs.declared.slot.Task.TheVariants.{Look, Compose}
 use Rattle.cv_event.specs.States.{Job, Canvas, State, job_in, did}
-use Rattle.cv_event.specs.Legality.{OfJob, how, task, Allows}
+use Rattle.cv_event.specs.Legality.{OfJob, how, task}
 use Rattle.cv_event.proofs.JobLemmas.{suc_zero, after_one}
-use Rattle.cv_desk.specs.Desks.{History, state, Notes, Stays}
+use Rattle.cv_desk.specs.Desks.{History, state, Notes}
 use Rattle.cv_desk.specs.Answers.{IsOfJob}
-use Rattle.cv_script.specs.declared.script.Command.{Command}
 use Rattle.cv_script.specs.declared.script.Command.TheVariants as command
 use Rattle.cv_script.specs.declared.script.Numbered.{Numbered}
 use Rattle.cv_session.specs.declared.seat.HeldTask.{HeldTask}
-use Rattle.cv_session.specs.Responses.{Response, Does, Gives as Calls, Waits, Refuses as Denies, last_job, at_job, response, claimed, job_of_task, held_by}
-use Rattle.cv_session.specs.Plays.{Awaited, Mode, Begins, GivesOne, GivesAll, Works, Closes, Written, Play, due_in, turned, refusing, begun, letting, let_go, given_all, waited, worked}
-use Rattle.cv_session.specs.Plays.{silent, planned, is_of_held, is_due, fails, entered, served, next, refusals}
+use Rattle.cv_session.specs.Responses.{Response, Does, Gives as Calls, Waits, Refuses as Denies, last_job, response, claimed, job_of_task, held_by}
+use Rattle.cv_session.specs.Plays.{Awaited, Mode, Begins, GivesOne, GivesAll, Works, Closes, Written, due_in, turned, refusing, begun, letting, let_go, given_all, waited, worked}
+use Rattle.cv_session.specs.Plays.{silent, is_of_held, fails, entered, served, next, refusals}
 use Rattle.cv_session.specs.Entered.{IsClaim, MayDo, MayGive, May}
-use Rattle.cv_session.specs.Seats.{Seat, now, task_of, tasks_of, Enters, Refuses, play_of, Moves, Obeys}
+use Rattle.cv_session.specs.Seats.{Seat, now, task_of, tasks_of, Refuses, play_of, Moves, Obeys}
 use Rattle.cv_session.specs.declared.tasks.Taken.{Taken}
 use Rattle.cv_session.specs.declared.tasks.Taken.TheVariants as taken
-use Rattle.cv_session.specs.Tasks.{ClaimsMore, Takes, Served, is_done, is_failed, is_let_go, ServesFirst, GivesRest, JobsStay, Gives, WaitsOn}
+use Rattle.cv_session.specs.Tasks.{Takes, Served, is_done, is_failed, is_let_go, ServesFirst, GivesRest, JobsStay, Gives, WaitsOn}
 use Rattle.cv_session.proofs.EnteredLemmas.{allowed_is_planned}
 use Rattle.cv_session.proofs.MoveLemmas.{behind, arrives, declines, denies, stay_put, go_on, by_quiet, by_own, by_failed, plays_of}
 use Rattle.cv_session.proofs.ObeyLemmas.{no_canvas, no_job, enters, take_holds}

@@ -1,9 +1,9 @@
 -- Tasks at a desk: what is due of them, and what a session keeps behind them.
-use Rattle.std.proofs.Common.{◌≡◌, refl, ap, sym, ◌∙◌, subst, ◌≤◌, ◌<◌, ℕ, zero, suc, ◌==◌, Bool, true, false, List, [], ◌∷◌, ◌++◌, map, length, drop, slice_get}
-use Rattle.std.proofs.Common.{Option, Some, None, is_some, option_map, option_and_then, arith, IsSome, IsSomeAnd, Result, Ok, Err, IfOk, OnOk, OnErr, slice_index_or}
+use Rattle.std.proofs.Common.{◌≡◌, refl, ap, sym, ◌∙◌, subst, ◌<◌, ℕ, ◌==◌, true, false, List, [], ◌∷◌, ◌++◌, map, length, drop, slice_get}
+use Rattle.std.proofs.Common.{Option, Some, None, is_some, option_map, option_and_then, arith, IsSomeAnd, Result, Ok, Err, IfOk, OnOk, OnErr, slice_index_or}
 use Rattle.std.specs.List.{AllByRecursion}
 use Rattle.std.proofs.lemmas.List.{append-nil}
-use Rattle.std.proofs.lemmas.Bool.{false≢true, true≢false}
+use Rattle.std.proofs.lemmas.Bool.{false≢true}
 use Rattle.std.proofs.lemmas.Bool.Decides.{nat_tests}
 use Rattle.cv_model.specs.Paintings.{Input, Painting, Composition}
 use Rattle.cv_model.specs.Views.{PixelGrid}
@@ -17,7 +17,7 @@ use Rattle.cv_event.specs.declared.slot.Task.TheVariants.{Look, Compose}
 use Rattle.cv_event.specs.States.{Job, State, job_in, did}
 use Rattle.cv_event.specs.Legality.{OfJob, OfSlot, how, is_open, all_ready, task, Allows}
 use Rattle.cv_event.proofs.DueLemmas.{looks_are_of_live_jobs, composes_are_of_live_jobs}
-use Rattle.cv_tables.specs.Rows.{Row, HasSlot, job_of, row_in, input_of, painting_of, painting_from, whole_of}
+use Rattle.cv_tables.specs.Rows.{Row, HasSlot, job_of, row_in, painting_of, painting_from, whole_of}
 use Rattle.cv_tables.specs.Tabs.{Tables, state_of}
 use Rattle.cv_desk.specs.Desks.{History, state, KeepJobs, Notes, Stays}
 use Rattle.cv_desk.specs.declared.errors.ClaimError.{ClaimError}
@@ -34,7 +34,7 @@ use Rattle.cv_session.specs.Entered.{IsClaim, MayDo}
 use Rattle.cv_session.specs.HeldLaws.{Owes, HoldsTasks}
 use Rattle.cv_session.specs.Covered.{Covers}
 use Rattle.cv_session.specs.Seats.{Seat, now, task_of, tasks_of, IsHeldOf, IsSeat}
-use Rattle.cv_session.specs.Tasks.{failed_job, ClaimsMore, TakesInto, IsDueOf, Served, is_done, is_failed, is_let_go, Left}
+use Rattle.cv_session.specs.Tasks.{failed_job, TakesInto, IsDueOf, Served, is_done, is_failed, is_let_go, Left}
 use Rattle.cv_session.proofs.HeldLemmas.{claim_no_delivery, held_more, held_done}
 use Rattle.cv_session.proofs.CoverLemmas.{covers_drop, covers_done, covers_task_failed, over_how}
 use Rattle.cv_session.proofs.SeatLemmas.{AreLast, AreSpecs, AreSized, is_start, all_stay, lasts_kept, specs_kept, sized_kept, seat_enters, seat_goes_on, seat_stands}

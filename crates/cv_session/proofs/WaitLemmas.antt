@@ -1,6 +1,6 @@
 -- How many tasks are left to be claimed, and each step of a wait.
-use Rattle.std.proofs.Common.{◌≡◌, ◌⊎◌, ⊎_elim, refl, ap, sym, ◌∙◌, subst, ◌≤◌, ◌<◌, ℕ, zero, suc, ◌+◌, ◌==◌, Bool, true, false, if◌then◌else◌}
-use Rattle.std.proofs.Common.{List, [], ◌∷◌, ◌++◌, map, length, drop, slice_get, Option, Some, None, is_some, option_and_then, arith, IsSomeAnd}
+use Rattle.std.proofs.Common.{◌≡◌, ◌⊎◌, ⊎_elim, refl, ap, sym, ◌∙◌, subst, ◌≤◌, ◌<◌, ℕ, zero, suc, ◌+◌, Bool, true, false, if◌then◌else◌}
+use Rattle.std.proofs.Common.{List, [], ◌∷◌, ◌++◌, map, drop, slice_get, Option, Some, None, is_some, option_and_then, arith, IsSomeAnd}
 use Rattle.std.specs.Option.{option_or}
 use Rattle.std.proofs.lemmas.Bool.{false≢true, true≢false}
 use Rattle.cv_event.specs.declared.entry.Act.{Act}
@@ -15,26 +15,23 @@ use Rattle.cv_event.specs.declared.slot.Task.{Task}
 use Rattle.cv_event.specs.declared.slot.Task.TheVariants.{Look, Compose}
 use Rattle.cv_event.specs.States.{Job, State, change_at, job_in, change_job, slot_stands, stands_at, composed_by, with_end, looked, delivered, did}
 use Rattle.cv_event.specs.Legality.{OfJob, how, is_open, all_ready, task, Allows}
-use Rattle.cv_event.specs.Histories.{ends}
-use Rattle.cv_event.proofs.JobLemmas.{does, after_one}
+use Rattle.cv_event.proofs.JobLemmas.{after_one}
 use Rattle.cv_event.proofs.EndLemmas.{end_one}
 use Rattle.cv_event.proofs.DueLemmas.{task_is_due, looks_are_of_live_jobs, composes_are_of_live_jobs}
-use Rattle.cv_desk.specs.Desks.{History, state, Notes}
+use Rattle.cv_desk.specs.Desks.{History, state}
 use Rattle.cv_desk.specs.Answers.{IsOfJob}
-use Rattle.cv_script.specs.declared.script.Numbered.{Numbered}
 use Rattle.cv_session.specs.declared.seat.HeldTask.{HeldTask}
 use Rattle.cv_session.specs.declared.tasks.Taken.{Taken}
 use Rattle.cv_session.specs.declared.tasks.Taken.TheVariants as taken
 use Rattle.cv_session.specs.Responses.{job_of_task, held_by}
-use Rattle.cv_session.specs.Plays.{Awaited, Works}
+use Rattle.cv_session.specs.Plays.{Works}
 use Rattle.cv_session.specs.Entered.{IsClaim, MayDo}
 use Rattle.cv_session.specs.Covered.{Covers}
 use Rattle.cv_session.specs.Seats.{Seat, now, task_of, tasks_of, IsSeat}
-use Rattle.cv_session.specs.Tasks.{ClaimsMore, TakesInto, Takes, Served, is_done, is_failed, is_let_go, ServesFirst, WaitsOn, open_weight, open_in, unclaimed_of, unclaimed, WaitsOnce}
+use Rattle.cv_session.specs.Tasks.{Takes, Served, is_done, is_failed, is_let_go, ServesFirst, open_weight, open_in, unclaimed_of, unclaimed, WaitsOnce}
 use Rattle.cv_session.proofs.PlayLemmas.{same_some}
 use Rattle.cv_session.proofs.MoveLemmas.{go_on}
 use Rattle.cv_session.proofs.CoverLemmas.{has_one, any_in}
-use Rattle.cv_session.proofs.TaskLemmas.{due_live}
 use Rattle.cv_session.proofs.ServeLemmas.{jobs_noted, jobs_served, works_first, works_claim, works_claim_failed}
 
 -- ---- one job changed

@@ -1,7 +1,7 @@
-use Rattle.std.proofs.Common.{◌≡◌, refl, ap, ◌∙◌, ◌++◌, ◌∷◌, [], List}
+use Rattle.std.proofs.Common.{ap, ◌∙◌, ◌++◌, ◌∷◌, [], List}
 use Rattle.cv_session.specs.declared.seat.HeldTask.{HeldTask}
 use Rattle.cv_session.specs.declared.seat.HeldTask.TheVariants as held
-use Rattle.cv_session.proofs.TaskLemmas.{failed_live, takes_failed, takes_piece, takes_compose}
+use Rattle.cv_session.proofs.TaskLemmas.{failed_live, takes_piece, takes_compose}
 use Rattle.cv_session.proofs.tasks.take.Goals as goal
 
 pub fail_live-requires : goal.fail_live-requires

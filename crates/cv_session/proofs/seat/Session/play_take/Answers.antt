@@ -1,5 +1,5 @@
 use Rattle.std.proofs.lemmas.Result.{on_ok_weaker}
-use Rattle.std.proofs.Common.{◌≡◌, ◌≤◌, ◌<◌, length, arith}
+use Rattle.std.proofs.Common.{◌≤◌, ◌<◌, length, arith}
 use Rattle.cv_session.proofs.ServeLemmas.{take_full, take_nothing, take_some}
 use Rattle.cv_session.proofs.seat.Session.play_take.Goals as goal
 

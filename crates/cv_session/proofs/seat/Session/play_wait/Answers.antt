@@ -1,4 +1,4 @@
-use Rattle.std.proofs.Common.{◌≡◌, ◌∙◌, slice_get}
+use Rattle.std.proofs.Common.{◌∙◌, slice_get}
 use Rattle.std.proofs.lemmas.Result.{on_ok_weaker}
 use Rattle.cv_session.specs.Responses.{last_job}
 use Rattle.cv_session.specs.Seats.{now}
