@@ -1,7 +1,8 @@
 -- How a session claims and does tasks.
 --
 -- Source: this project's own.
-use Rattle.std.specs.Prelude.{◌≡◌, ◌<◌, ◌+◌, ℕ, true, if◌then◌else◌, List, [], ◌∷◌, ◌++◌, map, drop, None, is_some, IsSome, IsSomeAnd}
+use Rattle.std.specs.Prelude.{◌≡◌, ◌<◌, ◌+◌, ℕ, true, if◌then◌else◌, List, [], ◌∷◌, ◌++◌, map, drop, None}
+use Rattle.std.specs.Prelude.{is_some, IsSome, IsSomeAnd}
 use Rattle.std.specs.List.{AllByRecursion}
 use Rattle.cv_event.specs.declared.entry.Act.{Act}
 use Rattle.cv_event.specs.declared.entry.Act.TheVariants as act
@@ -37,8 +38,8 @@ pub record ClaimsMore (old new : History) (a : Act) (more : List HeldTask) : Typ
   pub tasks : map task_of more ≡ held_by a
   pub own : AllByRecursion (IsHeldOf new) more
 
--- a claim takes the task that is due, and puts it behind what is held unless the cache served it; where there was
--- no memory, the task's job fails; nothing is taken where nothing is due
+-- a claim takes the task that is due, and puts it behind what is held unless the cache served it; where there
+-- was no memory, the task's job fails; nothing is taken where nothing is due
 abbrev pub TakesInto : History → History → List HeldTask → List HeldTask → Taken → Type 0
 TakesInto old new held now_held taken.Hit = (a : Act) × ClaimsMore old new a [] × (now_held ≡ held)
 TakesInto old new held now_held taken.Held =
@@ -58,8 +59,8 @@ pub record IsDueOf (h : History) (t : HeldTask) : Type 0 where
   pub owed : Owes (state h) 0 (task_of t)
   pub own : IsHeldOf h t
 
--- a task is done by its entry, or its job fails in the entry's place, or it is a composition of a job that has an
--- end, and nothing is entered
+-- a task is done by its entry, or its job fails in the entry's place, or it is a composition of a job that has
+-- an end, and nothing is entered
 pub data Served (old new : History) (t : Task) : Type 0 where
   is_done : (a : Act) → MayDo t a → Notes old new 0 a → Served old new t
   is_failed : Notes old new 0 (act.Fail (job_of_task t)) → Served old new t

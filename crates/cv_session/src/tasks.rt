@@ -1,7 +1,7 @@
 //! The tasks of a session: claimed, done, and waited for.
 
-ghost use Rattle.std.specs.Prelude.{◌≡◌, ◌≤◌, ◌<◌, ◌-◌, [], ◌∷◌, ◌++◌, length, slice_get, vec_capacity, vec_len};
-ghost use Rattle.std.specs.Prelude.{Some, None, IfOk, OnOk, OnErr, IsSome};
+ghost use Rattle.std.specs.Prelude.{◌≡◌, ◌≤◌, ◌<◌, ◌-◌, [], ◌∷◌, ◌++◌, length, slice_get, vec_capacity};
+ghost use Rattle.std.specs.Prelude.{vec_len, Some, None, IfOk, OnOk, OnErr, IsSome};
 ghost use Rattle.cv_event.specs.declared.entry.Act.TheVariants as act;
 ghost use Rattle.cv_event.specs.declared.slot.Standing.TheVariants.{Missed};
 ghost use Rattle.cv_event.specs.declared.slot.Task.TheVariants as task_is;
@@ -180,8 +180,8 @@ fn hold(held: &mut Vec<HeldTask>, task: HeldTask)
     let _ = held.push(task);
 }
 
-/// Claims the task that is due and puts it behind those that are held, unless the cache serves it. Where there
-/// is no memory for it, its job fails.
+/// Claims the task that is due and puts it behind those that are held, unless the cache serves it. Where
+/// there is no memory for it, its job fails.
 fn take(desk: &mut Desk, held: &mut Vec<HeldTask>) -> Result<Taken, NoMemory>
     ensures ok { IfOk result (TakesInto desk.old desk.new held.old.items held.new.items) }
     ensures err { OnErr result ((desk.new ≡ desk.old) × (held.new.items ≡ held.old.items)) }
