@@ -198,11 +198,14 @@ start_too_many old new line c there h f =
   where
     full : (n : ℕ) → n ≡ 4294967295 → nat_lt n 4294967295 ≡ false
     full n e = grind (arith, nat_tests)
+
     none_left : starts (now old) c ≡ Denies reason.TooManyJobs
     none_left = ap (λ (b : Bool). if b then Does (act.Start c (suc (length (now old).jobs))) else Denies reason.TooManyJobs) (full (length (now old).jobs) h)
+
     by_view : (o : Option PixelGrid) → is_some o ≡ true → option_map_or (λ (v : PixelGrid). starts (now old) c) o (Denies reason.NoView) ≡ Denies reason.TooManyJobs
     by_view None there = absurd cc
     by_view (Some v) there = none_left
+
     by_canvas : (o : Option Canvas) → is_some (option_and_then (λ (k : Canvas). k.view) o) ≡ true
         → option_map_or (λ (k : Canvas). option_map_or (λ (v : PixelGrid). starts (now old) c) k.view (Denies reason.NoView)) o (Denies reason.UnknownCanvas) ≡ Denies reason.TooManyJobs
     by_canvas None there = absurd cc
@@ -231,6 +234,7 @@ cancel_ended old new line c j h there last e f =
   where
     ask : ℕ → Response
     ask k = unless_ended (how (now old) k) (act.Cancel k)
+
     by_canvas : (o : Option Canvas) → is_some o ≡ true
         → option_map_or (λ (k : Canvas). option_map_or ask (last_job (now old) c) (Denies reason.NoJob)) o (Denies reason.UnknownCanvas) ≡ Denies (ended_reason h)
     by_canvas None there = absurd cc

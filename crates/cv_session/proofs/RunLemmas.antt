@@ -295,6 +295,7 @@ run_cut o views script s0 s1 s2 r image tray tray' is opened shown k legal entri
   where
     first : Moves (Opens 0 views) script s0 Begins (k.cut ∷ k.left) k.mid k.through.files
     first = go_on (Opens 0 views) Begins Begins script script (k.cut ∷ k.left) s0 s1 k.mid [] k.through.files (shown script) k.through.moves
+
     last : Moves Begins (k.cut ∷ k.left) k.mid Begins k.left s2 (k.broken.file ∷ [])
     last = k.broken.obeys k.left
 

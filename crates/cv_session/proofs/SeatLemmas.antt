@@ -173,12 +173,15 @@ lasts_started s c j lasts allowed f = by_view (view_on s c) refl allowed.0
       where
         number : 1 + length (map (cancelled_on c) s.jobs) ≡ j
         number = let l = length-map s.jobs (cancelled_on c) in omega (arith, l, allowed.1)
+
         by_test : (b : Bool) (o : Option ℕ) → option_or (if b then Some j else None) o ≡ (if b then Some j else o)
         by_test true o = refl
         by_test false o = refl
+
     by_canvas : (b : Bool) (x : Option ℕ) (o : Option Canvas) → option_map (λ y. if b then Some j else y) (option_map (λ (k : Canvas). x) o) ≡ option_map (λ (k : Canvas). if b then Some j else x) o
     by_canvas b x None = refl
     by_canvas b x (Some k) = refl
+
     by_view : (o : Option PixelGrid) → view_on s c ≡ o → is_some o ≡ true → AreLast (did s 0 (act.Start c j)) (set lasts c (Some j))
     by_view None e h = absurd cc
     by_view (Some view) e h = λ k.
@@ -215,6 +218,7 @@ size_given s who c (act.View k v) view g allowed = by (k == c) refl g
     sizes : (o : Option Canvas) → IsSomeAnd o (λ (k : Canvas). IsView v × (v.w ≡ k.spec.w) × (v.h ≡ k.spec.h)) → IsSomeAnd o (λ (k : Canvas). (v.w ≡ k.spec.w) × (v.h ≡ k.spec.h))
     sizes None h = absurd h
     sizes (Some k) h = (h.1, h.2)
+
     by : (b : Bool) → (k == c) ≡ b → (if b then Some v else None) ≡ Some view → IsOfSize s c view
     by false e g = absurd cc
     by true e g = subst (IsOfSize s c) (same_some g) (subst (λ (n : ℕ). IsOfSize s n v) (eqb-true k c e) (sizes (slice_get s.canvases k) allowed))

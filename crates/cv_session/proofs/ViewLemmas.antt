@@ -82,9 +82,11 @@ not_other_size s c view h other = by (slice_get s.canvases c) h other
   where
     same : (m n : ℕ) → m ≡ n → (m == n) ≡ true
     same m n e = grind (arith, nat_tests)
+
     both : (a b : Bool) → a ≡ true → b ≡ true → (a && b) ≡ false → ⊥
     both true b e f g = absurd (false≢true (sym g ∙ f))
     both false b e f g = absurd (false≢true e)
+
     by : (o : Option Canvas) → IsSomeAnd o (λ (k : Canvas). (view.w ≡ k.spec.w) × (view.h ≡ k.spec.h))
         → IsSomeAnd o (λ (k : Canvas). ((view.w == k.spec.w) && (view.h == k.spec.h)) ≡ false) → ⊥
     by None h other = absurd h

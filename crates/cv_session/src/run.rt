@@ -10,7 +10,8 @@ ghost use Rattle.cv_store.specs.Stores.{project_of};
 ghost use Rattle.cv_session.specs.Files.{Spares, SparesOne};
 ghost use Rattle.cv_session.specs.Outputs.{CommandEnds};
 ghost use Rattle.cv_session.specs.Reports.{AreFirst, RunEnds};
-ghost use Rattle.cv_session.specs.Runs.{IsOpened, ShowsFirst, SizesStay, AreOfSize, ShowsAll, AllEnd, Ends, told_by};
+ghost use Rattle.cv_session.specs.Runs.{IsOpened, ShowsFirst, SizesStay, AreOfSize, ShowsAll, AllEnd, Ends};
+ghost use Rattle.cv_session.specs.Runs.{told_by};
 ghost use Rattle.cv_session.specs.Plays.{file_of};
 ghost use Rattle.cv_session.specs.Seats.{now, IsOfSize, Obeys};
 
@@ -67,7 +68,7 @@ fn none_yet(alloc: Global, canvases: usize) -> Result<Vec<Option<u32>>, NoMemory
 }
 
 impl Session {
-    /// A session of a store, with canvases of these sizes and capacities. Nothing was entered, held or refused.
+    /// A session of a store, with canvases of these sizes and capacities, in which nothing happened yet.
     fn open(alloc: Global, store: Store, specs: &[CanvasSpec]) -> Result<Session, NoMemory>
         requires { store.version ≡ 1 }
         ensures { IfOk result (IsOpened (record { project = project_of store; canvases = specs.now })) }
