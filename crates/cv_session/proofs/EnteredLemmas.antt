@@ -14,7 +14,6 @@ use Rattle.cv_event.specs.declared.entry.Act.{Act}
 use Rattle.cv_event.specs.declared.entry.Act.TheVariants as act
 use Rattle.cv_event.specs.declared.entry.Fate.{Fate}
 use Rattle.cv_event.specs.declared.entry.How.{How}
-use Rattle.cv_event.specs.declared.entry.How.TheVariants as how_of
 use Rattle.cv_event.specs.declared.refused.Reason.TheVariants as reason
 use Rattle.cv_event.specs.declared.slot.Slot.{Slot}
 use Rattle.cv_event.specs.declared.slot.Standing.TheVariants.{Missed}

@@ -11,9 +11,10 @@ pub mod CoverLemmas
 pub mod SeatLemmas
 pub mod MoveLemmas
 pub mod ObeyLemmas
-pub mod OutputLemmas
-pub mod ViewLemmas
 pub mod TaskLemmas
 pub mod ServeLemmas
 pub mod WaitLemmas
+pub mod ViewLemmas
+pub mod OutputLemmas
+pub mod RunLemmas
 pub mod WorkedOthers

@@ -1,20 +1,20 @@
 -- How a session comes from seat to seat: plays of commands.
-use Rattle.std.proofs.Common.{◌≡◌, refl, ap, sym, ◌∙◌, subst, ℕ, suc, ◌+◌, true, List, [], ◌∷◌, ◌++◌, map, length, append_assoc, Option, Some, None, arith}
-use Rattle.std.proofs.lemmas.List.{append-nil, length-append, map-append}
+use Rattle.std.proofs.Common.{◌≡◌, refl, ap, sym, ◌∙◌, subst, ℕ, suc, ◌+◌, true, List, [], ◌∷◌, ◌++◌, map, length, append_assoc, Some, arith}
+use Rattle.std.proofs.lemmas.List.{append-nil, length-append}
 use Rattle.cv_event.specs.declared.entry.Act.{Act}
 use Rattle.cv_event.specs.declared.entry.Act.TheVariants as act
 use Rattle.cv_event.specs.declared.entry.Entry.{Entry}
 use Rattle.cv_event.specs.declared.refused.Reason.{Reason}
 use Rattle.cv_event.specs.declared.refused.Refused.{Refused}
 use Rattle.cv_event.specs.declared.slot.Task.{Task}
-use Rattle.cv_event.specs.States.{State, did}
+use Rattle.cv_event.specs.States.{did}
 use Rattle.cv_tables.specs.Tabs.{state_of}
-use Rattle.cv_desk.specs.Desks.{History, state, Notes, Stays}
+use Rattle.cv_desk.specs.Desks.{History, state, Notes}
 use Rattle.cv_script.specs.declared.script.Command.{Command}
 use Rattle.cv_script.specs.declared.script.Numbered.{Numbered}
 use Rattle.cv_session.specs.Responses.{Does, Refuses as Denies, response, held_by}
-use Rattle.cv_session.specs.Plays.{Mode, Begins, Written, Play, due_in, refusing, begun, silent, planned, fails, act_of, entered, refusals, written_by, through, next, entry_by, Plays, stops, quiet, own, failed}
-use Rattle.cv_session.specs.Seats.{Seat, now, task_of, tasks_of, Enters, Stands, Refuses, play_of, Moves, Obeys}
+use Rattle.cv_session.specs.Plays.{Mode, Begins, Written, Play, due_in, refusing, begun, silent, planned, fails, act_of, entered, refusals, written_by, next, entry_by, Plays, stops, quiet, own, failed}
+use Rattle.cv_session.specs.Seats.{Seat, now, task_of, tasks_of, Stands, Refuses, play_of, Moves, Obeys}
 use Rattle.cv_session.proofs.PlayLemmas.{joined}
 
 -- a command of a line, and those behind it
@@ -36,7 +36,7 @@ pub record Leaves (old new : Seat) (line : ℕ) (c : Command) (a : Act) (files :
   pub writes : written_by (did (now old) 0 a) a c ≡ files
 
 -- the play behind it is that of the new seat
-arrives : (old new : Seat) (line : ℕ) (c : Command) (a : Act) (files before : List Written) (rest : List Numbered) → Leaves old new line c a files
+pub arrives : (old new : Seat) (line : ℕ) (c : Command) (a : Act) (files before : List Written) (rest : List Numbered) → Leaves old new line c a files
     → next a (play_of Begins (behind line c rest) before old) ≡ play_of Begins rest (before ++ files) new
 arrives old new line c a files before rest l =
     let read = longer old new a l.notes in

@@ -1,5 +1,5 @@
 -- Each way through a command, over plain seats.
-use Rattle.std.proofs.Common.{◌≡◌, refl, ap, sym, ◌∙◌, subst, ◌≤◌, ◌<◌, ℕ, suc, ◌==◌, ◌+◌, nat_lt, nat_le, Bool, true, false, if◌then◌else◌, List, [], ◌∷◌, ◌++◌, map, length, slice_get, Option, Some, None, is_some, option_map, option_and_then, option_to_list, arith, IsSome, IsNone, IsSomeAnd, Result, Ok, Err, OnOk}
+use Rattle.std.proofs.Common.{◌≡◌, refl, ap, sym, ◌∙◌, subst, ◌<◌, ℕ, suc, ◌==◌, ◌+◌, nat_lt, Bool, true, false, if◌then◌else◌, List, [], ◌∷◌, ◌++◌, map, length, slice_get, Option, Some, None, is_some, option_map, option_and_then, option_to_list, arith, IsSome, IsNone, IsSomeAnd, Result, Ok, Err, OnOk}
 use Rattle.std.specs.Option.{option_map_or, option_or}
 use Rattle.std.proofs.lemmas.List.{append-nil, map-append}
 use Rattle.std.proofs.lemmas.Bool.{false≢true}
@@ -7,13 +7,11 @@ use Rattle.std.proofs.lemmas.Bool.Decides.{nat_tests}
 use Rattle.cv_model.specs.declared.edit.Edit.{Edit}
 use Rattle.cv_model.specs.declared.edit.EditError.{EditError}
 use Rattle.cv_model.specs.Views.{PixelGrid}
-use Rattle.cv_model.specs.Edits.{verdict}
 use Rattle.cv_event.specs.declared.entry.Act.{Act}
 use Rattle.cv_event.specs.declared.entry.Act.TheVariants as act
 use Rattle.cv_event.specs.declared.entry.How.{How}
 use Rattle.cv_event.specs.declared.refused.Reason.{Reason}
 use Rattle.cv_event.specs.declared.refused.Reason.TheVariants as reason
-use Rattle.cv_event.specs.declared.entry.How.TheVariants as how_of
 use Rattle.cv_event.specs.States.{Job, Canvas, State, view_on, job_in, did}
 use Rattle.cv_event.specs.Legality.{OfJob, how}
 use Rattle.cv_script.specs.declared.script.Command.{Command}
@@ -25,11 +23,11 @@ use Rattle.cv_session.specs.declared.seat.HeldTask.{HeldTask}
 use Rattle.cv_desk.specs.Desks.{History, Notes}
 use Rattle.cv_event.specs.declared.refused.Refused.{Refused}
 use Rattle.cv_event.specs.declared.slot.Task.{Task}
-use Rattle.cv_session.specs.Seats.{Seat, now, task_of, tasks_of, Enters, Stands, Refuses, Obeys}
+use Rattle.cv_session.specs.Seats.{Seat, now, task_of, tasks_of, Enters, Refuses, Obeys}
 use Rattle.cv_session.proofs.PlayLemmas.{same_some}
 use Rattle.cv_session.proofs.EnteredLemmas.{act_planned}
 use Rattle.cv_session.proofs.WriteLemmas.{no_file_written}
-use Rattle.cv_session.proofs.MoveLemmas.{Leaves, longer, does, Declines, declines, declines_behind, denies}
+use Rattle.cv_session.proofs.MoveLemmas.{Leaves, longer, does, Declines, denies}
 
 -- what follows of an answer
 pub on_ok : {A E : Type 0} {P Q : Type 0} (r : Result A E) → (P → Q) → OnOk r P → OnOk r Q
@@ -69,7 +67,7 @@ job_from : (k c : ℕ) (xs : List Job) (j : ℕ) → last_from k c xs ≡ Some j
 job_from k c [] j e = absurd cc
 job_from k c (x ∷ xs) j e = job_one k c x xs j (last_from (suc k) c xs) (λ n g. job_from (suc k) c xs n g) e
 
-last_there : (s : State) (c j : ℕ) → last_job s c ≡ Some j → is_some (job_in s.jobs j) ≡ true
+pub last_there : (s : State) (c j : ℕ) → last_job s c ≡ Some j → is_some (job_in s.jobs j) ≡ true
 last_there s c j e =
     let f = job_from 1 c s.jobs j e in
     let same : j ≡ suc f.0 = let at = f.1 in omega (arith, at) in
@@ -200,11 +198,14 @@ start_too_many old new line c there h f =
   where
     full : (n : ℕ) → n ≡ 4294967295 → nat_lt n 4294967295 ≡ false
     full n e = grind (arith, nat_tests)
+
     none_left : starts (now old) c ≡ Denies reason.TooManyJobs
     none_left = ap (λ (b : Bool). if b then Does (act.Start c (suc (length (now old).jobs))) else Denies reason.TooManyJobs) (full (length (now old).jobs) h)
+
     by_view : (o : Option PixelGrid) → is_some o ≡ true → option_map_or (λ (v : PixelGrid). starts (now old) c) o (Denies reason.NoView) ≡ Denies reason.TooManyJobs
     by_view None there = absurd cc
     by_view (Some v) there = none_left
+
     by_canvas : (o : Option Canvas) → is_some (option_and_then (λ (k : Canvas). k.view) o) ≡ true
         → option_map_or (λ (k : Canvas). option_map_or (λ (v : PixelGrid). starts (now old) c) k.view (Denies reason.NoView)) o (Denies reason.UnknownCanvas) ≡ Denies reason.TooManyJobs
     by_canvas None there = absurd cc
@@ -233,6 +234,7 @@ cancel_ended old new line c j h there last e f =
   where
     ask : ℕ → Response
     ask k = unless_ended (how (now old) k) (act.Cancel k)
+
     by_canvas : (o : Option Canvas) → is_some o ≡ true
         → option_map_or (λ (k : Canvas). option_map_or ask (last_job (now old) c) (Denies reason.NoJob)) o (Denies reason.UnknownCanvas) ≡ Denies (ended_reason h)
     by_canvas None there = absurd cc

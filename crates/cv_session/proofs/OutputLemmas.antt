@@ -165,7 +165,7 @@ preview_shows h j row known fits e live =
     let shown = known.jobs j row e in
     let few = few_slots (present h).jobs j (job_of row) (jobs_have_few_slots h.opening h.journal fits known.legal) shown.job in
     let listed = preview_lists_ready (present h) 0 j (ready_bits row.slots) (subst (λ o. IsSomeAnd o (λ (job : Job). (job.ended ≡ None) × (ready_bits row.slots ≡ ready_bits job.slots))) (sym shown.job) (live, refl))
-        (subst (λ o. IsSomeAnd o (λ (job : Job). length job.slots ≤ 32)) (sym shown.job) few) in
+    (subst (λ o. IsSomeAnd o (λ (job : Job). length job.slots ≤ 32)) (sym shown.job) few) in
     let are : listed_slots (ready_bits row.slots) ≡ ready_from 0 row.slots = listed ∙ ap (λ (o : Option Job). option_map_or (λ (job : Job). ready_from 0 job.slots) o []) shown.job in
     ap (λ (s : State). picture_by s (act.Preview j (ready_bits row.slots))) (sym known.state)
     ∙ ap (λ (o : Option Job). option_map (λ (t : Taken). picture_with t.project t.view (listed_slots (ready_bits row.slots))) (option_map (taken_of j) o)) shown.job
@@ -318,9 +318,11 @@ ended_job s c j h act_on there last e = by_canvas (slice_get s.canvases c) there
   where
     ask : ℕ → Response
     ask k = unless_ended (how s k) (act_on k)
+
     how_is : (o : Option Job) → IsSomeAnd o (λ job. job.ended ≡ Some h) → option_and_then (λ (job : Job). job.ended) o ≡ Some h
     how_is None f = absurd f
     how_is (Some job) f = f
+
     by_canvas : (o : Option Canvas) → is_some o ≡ true
         → option_map_or (λ (k : Canvas). option_map_or ask (last_job s c) (Denies reason.NoJob)) o (Denies reason.UnknownCanvas) ≡ Denies (ended_reason h)
     by_canvas None there = absurd cc
@@ -495,5 +497,5 @@ run_broken o views script image r tray tray' is legal number fault k =
       last = sym (ap length all) ∙ count ∙ omega (arith, number, k.images);
       breaks = λ t. subst (λ (n : ℕ). Breaks n (reported o script r) tray.files tray'.files) (sym k.images)
           (subst (λ (ws : List Written). Breaks (length k.old.written) ws tray.files tray'.files) all
-              (broken_at k.old.written k.file tray.files k.mid tray'.files (k.puts t) (k.others t)));
+          (broken_at k.old.written k.file tray.files k.mid tray'.files (k.puts t) (k.others t)));
     }

@@ -1,11 +1,10 @@
 -- What a session keeps behind the calls of its desk.
-use Rattle.std.proofs.Common.{◌≡◌, refl, ap, sym, ◌∙◌, subst, ◌≤◌, ◌<◌, ℕ, zero, suc, ◌==◌, ◌+◌, Bool, true, false, if◌then◌else◌}
+use Rattle.std.proofs.Common.{◌≡◌, refl, ap, sym, ◌∙◌, subst, ℕ, zero, suc, ◌==◌, ◌+◌, Bool, true, false, if◌then◌else◌}
 use Rattle.std.proofs.Common.{List, [], ◌∷◌, ◌++◌, map, length, set, slice_get, Option, Some, None, is_some, option_map, option_and_then, arith, IsSomeAnd, Result, Ok, Err, OnOk, OnErr}
 use Rattle.std.specs.List.{AllByRecursion}
 use Rattle.std.specs.Option.{option_or}
 use Rattle.std.proofs.lemmas.List.{append-nil, map-append, length-map}
-use Rattle.std.proofs.lemmas.Bool.{false≢true, true≢false, eqb-true}
-use Rattle.std.proofs.lemmas.Bool.Decides.{nat_tests}
+use Rattle.std.proofs.lemmas.Bool.{true≢false, eqb-true}
 use Rattle.cv_model.specs.declared.edit.Edit.{Edit}
 use Rattle.cv_model.specs.declared.edit.EditError.{EditError}
 use Rattle.cv_model.specs.declared.edit.EditError.TheVariants as error
@@ -14,7 +13,6 @@ use Rattle.cv_model.specs.Views.{PixelGrid, IsView}
 use Rattle.cv_model.specs.declared.project.CanvasSpec.{CanvasSpec}
 use Rattle.cv_event.specs.declared.entry.Act.{Act}
 use Rattle.cv_event.specs.declared.entry.Act.TheVariants as act
-use Rattle.cv_event.specs.declared.entry.How.{How}
 use Rattle.cv_event.specs.declared.entry.How.TheVariants.{Cancelled, Finished, NoMemory}
 use Rattle.cv_event.specs.declared.slot.Task.{Task}
 use Rattle.cv_event.specs.States.{Job, Canvas, State, change_at, change_job, job_edited, cancelled_on, new_job, started, stands_at, composed_by, with_end, looked, delivered, view_on, did}
@@ -26,7 +24,7 @@ use Rattle.cv_event.proofs.TakenLemmas.{view_one}
 use Rattle.cv_event.proofs.ShownLemmas.{presence, presence_seen, IsSeen, settled_one}
 use Rattle.cv_tables.specs.Rows.{Row, row_in, whole_of}
 use Rattle.cv_tables.specs.Tabs.{Tables, state_of}
-use Rattle.cv_desk.specs.Desks.{History, state, KeepJobs, Notes, Stays, basis_of}
+use Rattle.cv_desk.specs.Desks.{History, KeepJobs, Notes, Stays}
 use Rattle.cv_desk.specs.Answers.{EditNotes}
 use Rattle.cv_desk.proofs.BasisLemmas.{jobs_same, basis_stays, piece_stays, whole_stays}
 use Rattle.cv_session.specs.declared.seat.HeldTask.{HeldTask}
@@ -175,12 +173,15 @@ lasts_started s c j lasts allowed f = by_view (view_on s c) refl allowed.0
       where
         number : 1 + length (map (cancelled_on c) s.jobs) ≡ j
         number = let l = length-map s.jobs (cancelled_on c) in omega (arith, l, allowed.1)
+
         by_test : (b : Bool) (o : Option ℕ) → option_or (if b then Some j else None) o ≡ (if b then Some j else o)
         by_test true o = refl
         by_test false o = refl
+
     by_canvas : (b : Bool) (x : Option ℕ) (o : Option Canvas) → option_map (λ y. if b then Some j else y) (option_map (λ (k : Canvas). x) o) ≡ option_map (λ (k : Canvas). if b then Some j else x) o
     by_canvas b x None = refl
     by_canvas b x (Some k) = refl
+
     by_view : (o : Option PixelGrid) → view_on s c ≡ o → is_some o ≡ true → AreLast (did s 0 (act.Start c j)) (set lasts c (Some j))
     by_view None e h = absurd cc
     by_view (Some view) e h = λ k.
@@ -200,7 +201,7 @@ spec_of k = Some k.spec
 spec_seen : IsSeen spec_of
 spec_seen = record { viewed = λ view k. refl; cache = λ cache k. refl }
 
-size_stays : (s : State) (who c : ℕ) (a : Act) (view : PixelGrid) → IsOfSize s c view → IsOfSize (did s who a) c view
+pub size_stays : (s : State) (who c : ℕ) (a : Act) (view : PixelGrid) → IsOfSize s c view → IsOfSize (did s who a) c view
 size_stays s who c a view h = by (slice_get s.canvases c) (slice_get (did s who a).canvases c) (settled_one spec_of spec_seen (λ j job k. refl) s who c a) h
   where
     by : (o p : Option Canvas) → option_and_then spec_of p ≡ option_and_then spec_of o → IsSomeAnd o (λ (k : Canvas). (view.w ≡ k.spec.w) × (view.h ≡ k.spec.h))
@@ -217,6 +218,7 @@ size_given s who c (act.View k v) view g allowed = by (k == c) refl g
     sizes : (o : Option Canvas) → IsSomeAnd o (λ (k : Canvas). IsView v × (v.w ≡ k.spec.w) × (v.h ≡ k.spec.h)) → IsSomeAnd o (λ (k : Canvas). (v.w ≡ k.spec.w) × (v.h ≡ k.spec.h))
     sizes None h = absurd h
     sizes (Some k) h = (h.1, h.2)
+
     by : (b : Bool) → (k == c) ≡ b → (if b then Some v else None) ≡ Some view → IsOfSize s c view
     by false e g = absurd cc
     by true e g = subst (IsOfSize s c) (same_some g) (subst (λ (n : ℕ). IsOfSize s n v) (eqb-true k c e) (sizes (slice_get s.canvases k) allowed))

@@ -1,9 +1,9 @@
 -- Plays of tasks: what is claimed, done and waited for, over plain seats.
-use Rattle.std.proofs.Common.{◌≡◌, refl, ap, sym, ◌∙◌, subst, ◌≤◌, ◌<◌, ℕ, suc, ◌==◌, nat_eq, nat_lt, nat_le, Bool, true, false, not, ◌&&◌, ◌||◌, if◌then◌else◌}
+use Rattle.std.proofs.Common.{◌≡◌, ◌⊎◌, inl, inr, refl, ap, sym, ◌∙◌, subst, ◌≤◌, ◌<◌, ℕ, suc, ◌==◌, nat_eq, nat_lt, nat_le, Bool, true, false, not, ◌&&◌, ◌||◌, if◌then◌else◌}
 use Rattle.std.proofs.Common.{List, [], ◌∷◌, ◌++◌, map, length, drop, slice_get, Option, Some, None, is_some, option_map, option_and_then, option_to_list, arith, IsSome, IsSomeAnd}
 use Rattle.std.specs.List.{list_any}
 use Rattle.std.specs.Option.{option_map_or}
-use Rattle.std.proofs.lemmas.List.{append-nil, map-append}
+use Rattle.std.proofs.lemmas.List.{append-nil, length-map}
 use Rattle.std.proofs.lemmas.Bool.{false≢true, true≢false}
 use Rattle.std.proofs.lemmas.Bool.Decides.{nat_tests}
 use Rattle.cv_event.specs.declared.entry.Act.{Act}
@@ -11,25 +11,29 @@ use Rattle.cv_event.specs.declared.entry.Act.TheVariants as act
 use Rattle.cv_event.specs.declared.entry.How.{How}
 use Rattle.cv_event.specs.declared.entry.How.TheVariants as how_is
 use Rattle.cv_event.specs.declared.refused.Reason.TheVariants as reason
+use Rattle.cv_event.specs.declared.refused.Refused.{Refused}
 use Rattle.cv_event.specs.declared.slot.Task.{Task}
 use Rattle.cv_event.specs.declared.slot.Task.TheVariants.{Look, Compose}
 use Rattle.cv_event.specs.States.{Job, Canvas, State, job_in, did}
-use Rattle.cv_event.specs.Legality.{OfJob, how, task, Allows}
-use Rattle.cv_event.proofs.JobLemmas.{after_one}
-use Rattle.cv_desk.specs.Desks.{History, state, Notes, Stays}
+use Rattle.cv_event.specs.Legality.{OfJob, how, task}
+use Rattle.cv_event.proofs.JobLemmas.{suc_zero, after_one}
+use Rattle.cv_desk.specs.Desks.{History, state, Notes}
 use Rattle.cv_desk.specs.Answers.{IsOfJob}
-use Rattle.cv_script.specs.declared.script.Command.{Command}
 use Rattle.cv_script.specs.declared.script.Command.TheVariants as command
 use Rattle.cv_script.specs.declared.script.Numbered.{Numbered}
 use Rattle.cv_session.specs.declared.seat.HeldTask.{HeldTask}
-use Rattle.cv_session.specs.Responses.{Response, Does, Gives as Calls, Waits, Refuses as Denies, last_job, at_job, response, claimed, job_of_task, held_by}
-use Rattle.cv_session.specs.Plays.{Awaited, Mode, Begins, GivesOne, GivesAll, Works, Closes, Written, Play, due_in, turned, refusing, begun, letting, let_go, given_all, waited, worked}
-use Rattle.cv_session.specs.Plays.{silent, planned, is_of_held, is_due, fails, entered, served, next, refusals}
+use Rattle.cv_session.specs.Responses.{Response, Does, Gives as Calls, Waits, Refuses as Denies, last_job, response, claimed, job_of_task, held_by}
+use Rattle.cv_session.specs.Plays.{Awaited, Mode, Begins, GivesOne, GivesAll, Works, Closes, Written, due_in, turned, refusing, begun, letting, let_go, given_all, waited, worked}
+use Rattle.cv_session.specs.Plays.{silent, is_of_held, fails, entered, served, next, refusals}
 use Rattle.cv_session.specs.Entered.{IsClaim, MayDo, MayGive, May}
-use Rattle.cv_session.specs.Seats.{Seat, now, task_of, tasks_of, Enters, Refuses, play_of, Moves, Obeys}
-use Rattle.cv_session.specs.Tasks.{ClaimsMore, Served, is_done, is_failed, is_let_go, ServesFirst, GivesRest, JobsStay, Gives, WaitsOn}
+use Rattle.cv_session.specs.Seats.{Seat, now, task_of, tasks_of, Refuses, play_of, Moves, Obeys}
+use Rattle.cv_session.specs.declared.tasks.Taken.{Taken}
+use Rattle.cv_session.specs.declared.tasks.Taken.TheVariants as taken
+use Rattle.cv_session.specs.Tasks.{Takes, Served, is_done, is_failed, is_let_go, ServesFirst, GivesRest, JobsStay, Gives, WaitsOn}
 use Rattle.cv_session.proofs.EnteredLemmas.{allowed_is_planned}
-use Rattle.cv_session.proofs.MoveLemmas.{behind, denies, stay_put, go_on, by_quiet, by_own, by_failed, plays_of}
+use Rattle.cv_session.proofs.MoveLemmas.{behind, arrives, declines, denies, stay_put, go_on, by_quiet, by_own, by_failed, plays_of}
+use Rattle.cv_session.proofs.ObeyLemmas.{no_canvas, no_job, enters, take_holds}
+use Rattle.cv_session.proofs.WriteLemmas.{no_file_written}
 use Rattle.cv_session.proofs.TaskLemmas.{done_holds_none}
 
 itself : (n : ℕ) → (n == n) ≡ true
@@ -281,7 +285,7 @@ waits_for old mid last line c j there is gives none waits rest =
     (waits.moves w rest refl)))
 
 -- behind a job that ended otherwise
-pub wait_ends : (old mid last : Seat) (line c j : ℕ) (end : How) → IsSome (slice_get (now old).canvases c) → last_job (now old) c ≡ Some j → Gives old mid → mid.held ≡ []
+wait_ends : (old mid last : Seat) (line c j : ℕ) (end : How) → IsSome (slice_get (now old).canvases c) → last_job (now old) c ≡ Some j → Gives old mid → mid.held ≡ []
     → WaitsOn mid last j → how (now last) j ≡ Some end → (end ≡ how_is.NoMemory → ⊥) → Obeys old last line (command.Wait c) []
 wait_ends old mid last line c j end there is gives none waits ended memory rest =
     let w : Awaited = record { line = line; job = j } in
@@ -324,7 +328,7 @@ wait_ends_badly old mid last new line c j there is gives none waits ended f rest
 pub give_none : (old new : Seat) (line : ℕ) → old.held ≡ [] → Refuses old new line reason.NothingHeld → Obeys old new line command.Give []
 give_none old new line none f =
     denies old new line command.Give reason.NothingHeld
-    (ap (λ (ts : List HeldTask). if length (map task_of ts) == 0 then Denies reason.NothingHeld else Calls) none) f
+    (ap (λ (ts : List HeldTask). if length (map task_of ts) == 0 then Denies reason.NothingHeld else Calls) none) (declines old new line reason.NothingHeld f)
 
 pub give_one : (old new : Seat) (line : ℕ) → ServesFirst old new → Obeys old new line command.Give []
 give_one old new line f rest =
@@ -334,9 +338,14 @@ give_one old new line f rest =
     (serves_first GivesOne Begins from_one rest old new f)
   where
     asks : response (now old) (length (tasks_of old)) command.Give ≡ Calls
-    asks = ap (λ (ts : List Task). if length ts == 0 then Denies reason.NothingHeld else Calls) f.was
+    asks =
+        ap (λ (ts : List Task). if length ts == 0 then Denies reason.NothingHeld else Calls) f.was
+        ∙ ap (λ (x : Bool). if x then Denies reason.NothingHeld else Calls) (suc_zero (length f.rest))
 
 -- `take`
+held_few : (old : Seat) → length old.held < 64 → length (tasks_of old) < 64
+held_few old few = let l = length-map old.held task_of in omega (arith, l, few)
+
 take_asks : (s : State) (held : ℕ) → held < 64 → task s ≡ None → response s held command.Take ≡ Denies reason.Nothing
 take_asks s held few none = by_test (nat_le 64 held) (less held few)
   where
@@ -348,24 +357,37 @@ take_asks s held few none = by_test (nat_le 64 held) (less held few)
     by_test true h = absurd (true≢false h)
     by_test false h = ap (λ (o : Option Task). option_map_or (λ t. Does (claimed s t)) o (Denies reason.Nothing)) none
 
-pub take_nothing : (old new : Seat) (line : ℕ) → length (tasks_of old) < 64 → task (now old) ≡ None → Refuses old new line reason.Nothing → Obeys old new line command.Take []
-take_nothing old new line few none f = denies old new line command.Take reason.Nothing (take_asks (now old) (length (tasks_of old)) few none) f
+pub take_nothing : (old mid new : Seat) (line : ℕ) → length old.held < 64 → Takes old mid taken.Nothing → Refuses mid new line reason.Nothing → Obeys old new line command.Take []
+take_nothing old mid new line few goes f =
+    denies old new line command.Take reason.Nothing (take_asks (now old) (length (tasks_of old)) (held_few old few) goes.0.2) (record {
+      opening = ap (λ (h : History). h.opening) (f.history ∙ goes.0.0);
+      journal = ap (λ (h : History). h.journal) (f.history ∙ goes.0.0);
+      state = ap state (f.history ∙ goes.0.0);
+      held = ap (map task_of) (f.held ∙ goes.0.1);
+      refused = f.refused ∙ (λ i. goes.1 i ++ record { line = line; seen = length (goes.0.0 i).journal; reason = reason.Nothing } ∷ []);
+    })
 
-pub take_full : (old new : Seat) (line : ℕ) → 64 ≤ length (tasks_of old) → Refuses old new line reason.HeldFull → Obeys old new line command.Take []
+pub take_full : (old new : Seat) (line : ℕ) → 64 ≤ length old.held → Refuses old new line reason.HeldFull → Obeys old new line command.Take []
 take_full old new line many f =
     denies old new line command.Take reason.HeldFull
-    (ap (λ (x : Bool). if x then Denies reason.HeldFull else option_map_or (λ t. Does (claimed (now old) t)) (task (now old)) (Denies reason.Nothing)) (more (length (tasks_of old)) many)) f
+    (ap (λ (x : Bool). if x then Denies reason.HeldFull else option_map_or (λ t. Does (claimed (now old) t)) (task (now old)) (Denies reason.Nothing)) (more (length old.held) (length (tasks_of old)) (length-map old.held task_of) many))
+    (declines old new line reason.HeldFull f)
   where
-    more : (n : ℕ) → 64 ≤ n → nat_le 64 n ≡ true
-    more n l = grind (arith, nat_tests)
+    more : (m n : ℕ) → n ≡ m → 64 ≤ m → nat_le 64 n ≡ true
+    more m n e l = grind (arith, nat_tests)
 
 -- the claim's job may fail
-pub take_failed : (old new : Seat) (line j : ℕ) → length (tasks_of old) < 64 → IsSomeAnd (task (now old)) (IsOfJob j) → Notes old.history new.history 0 (act.Fail j)
+take_failed : (old new : Seat) (line j : ℕ) → length old.held < 64 → IsSomeAnd (task (now old)) (IsOfJob j) → Notes old.history new.history 0 (act.Fail j)
     → new.held ≡ old.held → new.refused ≡ old.refused → Obeys old new line command.Take []
 take_failed old new line j few due notes held refused rest =
-    by_failed Begins Begins (behind line command.Take rest) rest old new j [] notes (λ w. both (nat_lt (length (tasks_of old)) 64) _ (less (length (tasks_of old)) few) (due_is (now old) j due))
-    (λ w. plays_of Begins rest old new (act.Fail j) w notes (tasks_of old ++ []) (ap (map task_of) held ∙ sym (append-nil (tasks_of old))) refused
-    ∙ ap (λ (v : List Written). play_of Begins rest v new) (sym (append-nil w)))
+    by_failed Begins Begins (behind line command.Take rest) rest old new j [] notes
+    (λ w. both (nat_lt (length (tasks_of old)) 64) _ (less (length (tasks_of old)) (held_few old few)) (due_is (now old) j due))
+    (λ w. arrives old new line command.Take (act.Fail j) [] w rest (record {
+      notes = notes;
+      held = ap (map task_of) held ∙ sym (append-nil (tasks_of old));
+      refused = refused ∙ sym (append-nil old.refused);
+      writes = refl;
+    }))
   where
     less : (n : ℕ) → n < 64 → nat_lt n 64 ≡ true
     less n l = grind (arith, nat_tests)
@@ -374,7 +396,7 @@ take_failed old new line j few due notes held refused rest =
     both true b e f = f
     both false b e f = absurd (false≢true e)
 
-pub claim_refuses_none : (a : Act) (line seen : ℕ) → IsClaim a → refusals line seen a ≡ []
+claim_refuses_none : (a : Act) (line seen : ℕ) → IsClaim a → refusals line seen a ≡ []
 claim_refuses_none (act.Look j at hit) line seen m = refl
 claim_refuses_none (act.Compose j) line seen m = refl
 claim_refuses_none (act.Edit e v) line seen m = absurd m
@@ -386,3 +408,74 @@ claim_refuses_none (act.Fail j) line seen m = absurd m
 claim_refuses_none (act.Cancel j) line seen m = absurd m
 claim_refuses_none (act.Preview j ready) line seen m = absurd m
 claim_refuses_none (act.Save c j) line seen m = absurd m
+
+-- what a claim takes
+take_done : (old new : Seat) (line : ℕ) (end : Taken) → length old.held < 64 → (end ≡ taken.Nothing → ⊥) → Takes old new end → Obeys old new line command.Take []
+take_done old new line taken.Hit few f goes =
+    let a = goes.0.0 in
+    let more = goes.0.1 in
+    enters old new line command.Take a [] (held_few old few, more.claim) (record {
+      notes = more.notes;
+      held = ap (map task_of) goes.0.2 ∙ sym (append-nil (tasks_of old)) ∙ ap (λ (ts : List Task). tasks_of old ++ ts) more.tasks;
+      refused = goes.1 ∙ sym (append-nil old.refused) ∙ ap (λ (rs : List Refused). old.refused ++ rs) (sym (claim_refuses_none a line (suc (length old.history.journal)) more.claim));
+      writes = no_file_written (did (now old) 0 a) a command.Take refl;
+    })
+take_done old new line taken.Held few f goes =
+    let a = goes.0.0 in
+    let t = goes.0.1.0 in
+    let more = goes.0.1.1.0 in
+    take_holds old new line a t (held_few old few) more.claim (sym more.tasks) (claim_refuses_none a line (suc (length old.history.journal)) more.claim) more.notes goes.0.1.1.1 goes.1
+take_done old new line taken.Failed few f goes = take_failed old new line goes.0.0 few goes.0.2 goes.0.1 goes.0.3 goes.1
+take_done old new line taken.Nothing few f goes = absurd (f refl)
+
+pub take_some : (old new : Seat) (line : ℕ) (end : Taken) → length old.held < 64 → (end ≡ taken.Hit) ⊎ ((end ≡ taken.Held) ⊎ (end ≡ taken.Failed)) → Takes old new end
+    → Obeys old new line command.Take []
+take_some old new line end few is goes = take_done old new line end few (λ e. by_end end e is) goes
+  where
+    by_end : (end : Taken) → end ≡ taken.Nothing → (end ≡ taken.Hit) ⊎ ((end ≡ taken.Held) ⊎ (end ≡ taken.Failed)) → ⊥
+    by_end end e (inl h) = hit (sym e ∙ h)
+      where
+        hit : taken.Nothing ≡ taken.Hit → ⊥
+        hit h = cc
+    by_end end e (inr (inl h)) = held (sym e ∙ h)
+      where
+        held : taken.Nothing ≡ taken.Held → ⊥
+        held h = cc
+    by_end end e (inr (inr h)) = failed (sym e ∙ h)
+      where
+        failed : taken.Nothing ≡ taken.Failed → ⊥
+        failed h = cc
+
+-- `wait` of no job
+pub wait_unknown : (old new : Seat) (line c : ℕ) → slice_get (now old).canvases c ≡ None → Refuses old new line reason.UnknownCanvas → Obeys old new line (command.Wait c) []
+wait_unknown old new line c h f =
+    denies old new line (command.Wait c) reason.UnknownCanvas (no_canvas (now old) c (λ k. option_map_or Waits (last_job (now old) c) (Denies reason.NoJob)) h)
+    (declines old new line reason.UnknownCanvas f)
+
+pub wait_no_job : (old new : Seat) (line c : ℕ) → IsSome (slice_get (now old).canvases c) → last_job (now old) c ≡ None → Refuses old new line reason.NoJob
+    → Obeys old new line (command.Wait c) []
+wait_no_job old new line c there h f =
+    denies old new line (command.Wait c) reason.NoJob (no_job (now old) c Waits there h) (declines old new line reason.NoJob f)
+
+-- a job that ended otherwise
+pub wait_ends_well : (old mid last : Seat) (line c j : ℕ) (end : How) → IsSome (slice_get (now old).canvases c) → last_job (now old) c ≡ Some j → Gives old mid → mid.held ≡ []
+    → WaitsOn mid last j → how (now last) j ≡ Some end → (end ≡ how_is.Finished) ⊎ (end ≡ how_is.Cancelled) → Obeys old last line (command.Wait c) []
+wait_ends_well old mid last line c j end there is gives none waits ended kind =
+    wait_ends old mid last line c j end there is gives none waits ended (λ e. by_end kind e)
+  where
+    finished : how_is.Finished ≡ how_is.NoMemory → ⊥
+    finished h = cc
+
+    cancelled : how_is.Cancelled ≡ how_is.NoMemory → ⊥
+    cancelled h = cc
+
+    by_end : (end ≡ how_is.Finished) ⊎ (end ≡ how_is.Cancelled) → end ≡ how_is.NoMemory → ⊥
+    by_end (inl h) e = finished (sym h ∙ e)
+    by_end (inr h) e = cancelled (sym h ∙ e)
+
+-- ---- the end
+
+-- behind the last command all held tasks are done
+pub closes_all : (old new : Seat) → Gives old new → Moves Begins [] old Closes [] new []
+closes_all old new gives =
+    go_on Begins Closes Closes [] [] [] old old new [] [] (by_quiet Begins Closes [] [] old old refl (λ before. refl)) (gives.moves Closes [] tt)

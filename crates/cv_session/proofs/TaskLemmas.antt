@@ -1,9 +1,9 @@
 -- Tasks at a desk: what is due of them, and what a session keeps behind them.
-use Rattle.std.proofs.Common.{◌≡◌, refl, ap, sym, ◌∙◌, subst, ◌≤◌, ◌<◌, ℕ, zero, suc, ◌==◌, Bool, true, false, List, [], ◌∷◌, ◌++◌, map, length, drop, slice_get}
-use Rattle.std.proofs.Common.{Option, Some, None, is_some, option_map, option_and_then, arith, IsSome, IsSomeAnd}
+use Rattle.std.proofs.Common.{◌≡◌, refl, ap, sym, ◌∙◌, subst, ◌<◌, ℕ, ◌==◌, true, false, List, [], ◌∷◌, ◌++◌, map, length, drop, slice_get}
+use Rattle.std.proofs.Common.{Option, Some, None, is_some, option_map, option_and_then, arith, IsSomeAnd, Result, Ok, Err, IfOk, OnOk, OnErr, slice_index_or}
 use Rattle.std.specs.List.{AllByRecursion}
 use Rattle.std.proofs.lemmas.List.{append-nil}
-use Rattle.std.proofs.lemmas.Bool.{false≢true, true≢false}
+use Rattle.std.proofs.lemmas.Bool.{false≢true}
 use Rattle.std.proofs.lemmas.Bool.Decides.{nat_tests}
 use Rattle.cv_model.specs.Paintings.{Input, Painting, Composition}
 use Rattle.cv_model.specs.Views.{PixelGrid}
@@ -17,10 +17,13 @@ use Rattle.cv_event.specs.declared.slot.Task.TheVariants.{Look, Compose}
 use Rattle.cv_event.specs.States.{Job, State, job_in, did}
 use Rattle.cv_event.specs.Legality.{OfJob, OfSlot, how, is_open, all_ready, task, Allows}
 use Rattle.cv_event.proofs.DueLemmas.{looks_are_of_live_jobs, composes_are_of_live_jobs}
-use Rattle.cv_tables.specs.Rows.{Row, HasSlot, job_of, row_in, input_of, painting_of, painting_from, whole_of}
+use Rattle.cv_tables.specs.Rows.{Row, HasSlot, job_of, row_in, painting_of, painting_from, whole_of}
 use Rattle.cv_tables.specs.Tabs.{Tables, state_of}
 use Rattle.cv_desk.specs.Desks.{History, state, KeepJobs, Notes, Stays}
-use Rattle.cv_desk.specs.Answers.{IsPiece, IsOfJob}
+use Rattle.cv_desk.specs.declared.errors.ClaimError.{ClaimError}
+use Rattle.cv_desk.specs.declared.errors.ClaimError.TheVariants as claim_error
+use Rattle.cv_desk.specs.Answers.{IsPiece, IsOfJob, ClaimAnswer}
+use Rattle.cv_layer.specs.declared.input.Piece.{Piece}
 use Rattle.cv_desk.proofs.SeenLemmas.{job_seen}
 use Rattle.cv_session.specs.declared.seat.HeldTask.{HeldTask}
 use Rattle.cv_session.specs.declared.seat.HeldTask.TheVariants as held
@@ -31,7 +34,7 @@ use Rattle.cv_session.specs.Entered.{IsClaim, MayDo}
 use Rattle.cv_session.specs.HeldLaws.{Owes, HoldsTasks}
 use Rattle.cv_session.specs.Covered.{Covers}
 use Rattle.cv_session.specs.Seats.{Seat, now, task_of, tasks_of, IsHeldOf, IsSeat}
-use Rattle.cv_session.specs.Tasks.{ClaimsMore, TakesInto, IsDueOf, Served, is_done, is_failed, is_let_go, Left}
+use Rattle.cv_session.specs.Tasks.{failed_job, TakesInto, IsDueOf, Served, is_done, is_failed, is_let_go, Left}
 use Rattle.cv_session.proofs.HeldLemmas.{claim_no_delivery, held_more, held_done}
 use Rattle.cv_session.proofs.CoverLemmas.{covers_drop, covers_done, covers_task_failed, over_how}
 use Rattle.cv_session.proofs.SeatLemmas.{AreLast, AreSpecs, AreSized, is_start, all_stay, lasts_kept, specs_kept, sized_kept, seat_enters, seat_goes_on, seat_stands}
@@ -90,12 +93,16 @@ owed_there s (Compose j) h = by_job (job_in s.jobs j) h
     by_job None h = absurd h
     by_job (Some job) h = refl
 
-pub slot_there : (h : History) (j at : ℕ) (P : Row → Slot → Type 0) → HasSlot h.tables.rows j at P → is_some (job_in (state h).jobs j) ≡ true
+slot_there : (h : History) (j at : ℕ) (P : Row → Slot → Type 0) → HasSlot h.tables.rows j at P → is_some (job_in (state h).jobs j) ≡ true
 slot_there h j at P has = ap is_some (job_seen h.tables.rows j) ∙ by_row (row_in h.tables.rows j) has
   where
     by_row : (o : Option Row) → IsSomeAnd o (λ row. IsSomeAnd (slice_get row.slots at) (P row)) → is_some (option_map job_of o) ≡ true
     by_row None f = absurd f
     by_row (Some row) f = refl
+
+pub missed_there : (h : History) (j at : ℕ) (image : Painting)
+    → HasSlot h.tables.rows j at (λ row x. (x.standing ≡ Missed 0) × (row.ended ≡ None → painting_of row.store row.view x ≡ Some image)) → is_some (job_in (state h).jobs j) ≡ true
+missed_there h j at image has = slot_there h j at (λ row x. (x.standing ≡ Missed 0) × (row.ended ≡ None → painting_of row.store row.view x ≡ Some image)) has
 
 -- a job that is there isn't unknown, and what is ended has an end
 pub there_not_none : (o : Option Job) → is_some o ≡ true → o ≡ None → ⊥
@@ -294,7 +301,51 @@ seat_served old new t ts seat was e specs lasts (is_failed notes) =
     itself n = grind (arith, nat_tests)
 seat_served old new t ts seat was e specs lasts (is_let_go j is same over) = seat_left old new t ts seat was e specs lasts same over
 
+-- whatever became of it
+pub seat_given : {E : Type 0} (old new : Seat) (t : HeldTask) (ts : List HeldTask) (r : Result (Unit {0}) E) → IsSeat old → old.held ≡ t ∷ ts → new.held ≡ ts → new.specs ≡ old.specs
+    → new.lasts ≡ old.lasts → OnOk r (Served old.history new.history (task_of t)) → OnErr r (Left old.history new.history (job_of_task (task_of t))) → IsSeat new
+seat_given old new t ts (Ok x) seat was e specs lasts ok err = seat_served old new t ts seat was e specs lasts ok
+seat_given old new t ts (Err x) seat was e specs lasts ok err = seat_left old new t ts seat was e specs lasts err.same err.over
+
+pub seat_taken_by : {E : Type 0} (old new : Seat) (r : Result Taken E) → IsSeat old → IfOk r (TakesInto old.history new.history old.held new.held)
+    → OnErr r ((new.history ≡ old.history) × (new.held ≡ old.held)) → new.specs ≡ old.specs → new.lasts ≡ old.lasts → IsSeat new
+seat_taken_by old new (Ok end) seat ok err specs lasts = seat_taken old new end seat ok specs lasts
+seat_taken_by old new (Err x) seat ok err specs lasts = seat_stands old new seat (stays_same old.history new.history err.0) err.1 specs lasts
+
 -- the first task of a list, and those behind it
-pub first_task : (ts : List HeldTask) (t : HeldTask) → 0 < length ts → slice_get ts 0 ≡ Some t → ts ≡ t ∷ drop 1 ts
+pub first_task : (ts : List HeldTask) (t : HeldTask) → 0 < length ts → t ≡ slice_index_or ts 0 t → ts ≡ t ∷ drop 1 ts
 first_task [] t few h = absurd (omega (arith, few))
-first_task (x ∷ xs) t few h = ap (λ (y : HeldTask). y ∷ xs) (cc)
+first_task (x ∷ xs) t few h = ap (λ (y : HeldTask). y ∷ xs) (sym h)
+
+-- what is held is due
+pub first_due : (seat : Seat) (t : HeldTask) (ts : List HeldTask) → IsSeat seat → seat.held ≡ t ∷ ts → IsDueOf seat.history t
+first_due seat t ts is was = record {
+  owed = (subst (λ (us : List HeldTask). HoldsTasks (now seat) (map task_of us)) was is.holds).owed.0;
+  own = (subst (AllByRecursion (IsHeldOf seat.history)) was is.pieces).0;
+}
+
+-- ---- claims
+
+pub failed_live : (old mid : History) (e : ClaimError) (j : ℕ) → j ≡ failed_job e → ClaimAnswer old (Err e) → Stays old mid → OfJob (state mid) j (λ job. job.ended ≡ None)
+failed_live old mid (claim_error.NoMemory k) j e answer stays =
+    subst (λ (i : ℕ). OfJob (state mid) i (λ job. job.ended ≡ None)) (sym e)
+    (subst (λ (t : Tables). OfJob (state_of t) k (λ job. job.ended ≡ None)) (sym stays.tables) (due_live (state old) k answer))
+
+pub takes_failed : (old mid new : History) (e : ClaimError) (j : ℕ) (ts now_ts : List HeldTask) → j ≡ failed_job e → ClaimAnswer old (Err e) → Stays old mid
+    → Notes mid new 0 (act.Fail j) → now_ts ≡ ts → TakesInto old new ts now_ts taken.Failed
+takes_failed old mid new (claim_error.NoMemory k) j ts now_ts e answer stays notes same =
+    (j, noted_behind old mid new 0 (act.Fail j) stays notes, subst (λ (i : ℕ). IsSomeAnd (task (state old)) (IsOfJob i)) (sym e) answer, same)
+
+pub takes_piece : (old new : History) (piece : Piece) (ts now_ts : List HeldTask) → Notes old new 0 (act.Look piece.job piece.slot false)
+    → HasSlot old.tables.rows piece.job piece.slot (IsPiece piece.input piece.view) → now_ts ≡ ts ++ held.Paint piece ∷ [] → TakesInto old new ts now_ts taken.Held
+takes_piece old new piece ts now_ts notes own e =
+    (act.Look piece.job piece.slot false, (held.Paint piece, (record { claim = tt; notes = notes; tasks = refl; own = all_stay old new (held.Paint piece ∷ []) notes.jobs (own, tt) }, e)))
+
+pub takes_compose : (old new : History) (j : ℕ) (input : Composition) (ts now_ts : List HeldTask) → Notes old new 0 (act.Compose j)
+    → IsSomeAnd (row_in old.tables.rows j) (λ row. input ≡ whole_of row) → now_ts ≡ ts ++ held.Compose j input ∷ [] → TakesInto old new ts now_ts taken.Held
+takes_compose old new j input ts now_ts notes own e =
+    (act.Compose j, (held.Compose j input, (record { claim = tt; notes = notes; tasks = refl; own = all_stay old new (held.Compose j input ∷ []) notes.jobs (own, tt) }, e)))
+
+pub none_held : (ts : List HeldTask) → length ts ≡ 0 → ts ≡ []
+none_held [] e = refl
+none_held (t ∷ ts) e = absurd (omega (arith, e))

@@ -1,5 +1,5 @@
 -- The commands that give a canvas a view, over plain seats.
-use Rattle.std.proofs.Common.{◌≡◌, refl, ap, sym, ◌∙◌, subst, ℕ, ℤ, ◌==◌, ◌&&◌, pos, Bool, true, false, if◌then◌else◌, List, [], length, slice_get, Option, Some, None, option_map, Result, Ok, Err, IfOk, IsNone, IsSomeAnd, arith}
+use Rattle.std.proofs.Common.{◌≡◌, refl, ap, sym, ◌∙◌, ℕ, ℤ, ◌==◌, ◌&&◌, pos, Bool, true, false, if◌then◌else◌, [], length, slice_get, Option, Some, None, option_map, Result, Ok, Err, IfOk, IsNone, IsSomeAnd, arith}
 use Rattle.std.specs.Option.{option_map_or}
 use Rattle.std.proofs.lemmas.Bool.{false≢true}
 use Rattle.std.proofs.lemmas.Bool.Decides.{nat_tests}
@@ -10,14 +10,13 @@ use Rattle.cv_geom.specs.declared.views.ViewError.{ViewError}
 use Rattle.cv_geom.specs.declared.views.ViewError.TheVariants as view_error
 use Rattle.cv_geom.specs.Views.{is_size, is_spread, is_in_range, kept, view_of, moved, pan, scaled_side, resized, zoom}
 use Rattle.cv_event.specs.declared.entry.Act.TheVariants as act
-use Rattle.cv_event.specs.declared.refused.Reason.{Reason}
 use Rattle.cv_event.specs.declared.refused.Reason.TheVariants as reason
 use Rattle.cv_event.specs.States.{Canvas, State}
 use Rattle.cv_script.specs.declared.script.Command.{Command}
 use Rattle.cv_script.specs.declared.script.Command.TheVariants as command
-use Rattle.cv_session.specs.Responses.{Response, Refuses as Denies, at_canvas, at_view, shows, response}
+use Rattle.cv_session.specs.Responses.{Refuses as Denies, shows, response}
 use Rattle.cv_session.specs.Plays.{file_of}
-use Rattle.cv_session.specs.Seats.{Seat, now, tasks_of, canvas_spec, IsOfSize, Refuses, asked_of, Shows, Obeys}
+use Rattle.cv_session.specs.Seats.{Seat, now, tasks_of, canvas_spec, IsOfSize, Refuses, Shows, Obeys}
 use Rattle.cv_session.proofs.PlayLemmas.{same_some}
 use Rattle.cv_session.proofs.MoveLemmas.{does, declines, denies}
 use Rattle.cv_session.proofs.ObeyLemmas.{plain, no_canvas}
@@ -83,9 +82,11 @@ not_other_size s c view h other = by (slice_get s.canvases c) h other
   where
     same : (m n : ℕ) → m ≡ n → (m == n) ≡ true
     same m n e = grind (arith, nat_tests)
+
     both : (a b : Bool) → a ≡ true → b ≡ true → (a && b) ≡ false → ⊥
     both true b e f g = absurd (false≢true (sym g ∙ f))
     both false b e f g = absurd (false≢true e)
+
     by : (o : Option Canvas) → IsSomeAnd o (λ (k : Canvas). (view.w ≡ k.spec.w) × (view.h ≡ k.spec.h))
         → IsSomeAnd o (λ (k : Canvas). ((view.w == k.spec.w) && (view.h == k.spec.h)) ≡ false) → ⊥
     by None h other = absurd h

@@ -1,6 +1,6 @@
 -- How many tasks are left to be claimed, and each step of a wait.
-use Rattle.std.proofs.Common.{◌≡◌, refl, ap, sym, ◌∙◌, subst, ◌≤◌, ◌<◌, ℕ, zero, suc, ◌+◌, ◌==◌, Bool, true, false, if◌then◌else◌}
-use Rattle.std.proofs.Common.{List, [], ◌∷◌, ◌++◌, map, length, slice_get, Option, Some, None, is_some, option_and_then, arith, IsSomeAnd}
+use Rattle.std.proofs.Common.{◌≡◌, ◌⊎◌, ⊎_elim, refl, ap, sym, ◌∙◌, subst, ◌≤◌, ◌<◌, ℕ, zero, suc, ◌+◌, Bool, true, false, if◌then◌else◌}
+use Rattle.std.proofs.Common.{List, [], ◌∷◌, ◌++◌, map, drop, slice_get, Option, Some, None, is_some, option_and_then, arith, IsSomeAnd}
 use Rattle.std.specs.Option.{option_or}
 use Rattle.std.proofs.lemmas.Bool.{false≢true, true≢false}
 use Rattle.cv_event.specs.declared.entry.Act.{Act}
@@ -15,24 +15,23 @@ use Rattle.cv_event.specs.declared.slot.Task.{Task}
 use Rattle.cv_event.specs.declared.slot.Task.TheVariants.{Look, Compose}
 use Rattle.cv_event.specs.States.{Job, State, change_at, job_in, change_job, slot_stands, stands_at, composed_by, with_end, looked, delivered, did}
 use Rattle.cv_event.specs.Legality.{OfJob, how, is_open, all_ready, task, Allows}
-use Rattle.cv_event.specs.Histories.{ends}
-use Rattle.cv_event.proofs.JobLemmas.{does, after_one}
+use Rattle.cv_event.proofs.JobLemmas.{after_one}
 use Rattle.cv_event.proofs.EndLemmas.{end_one}
-use Rattle.cv_event.proofs.DueLemmas.{looks_are_of_live_jobs, composes_are_of_live_jobs}
-use Rattle.cv_desk.specs.Desks.{History, state, Notes}
+use Rattle.cv_event.proofs.DueLemmas.{task_is_due, looks_are_of_live_jobs, composes_are_of_live_jobs}
+use Rattle.cv_desk.specs.Desks.{History, state}
 use Rattle.cv_desk.specs.Answers.{IsOfJob}
-use Rattle.cv_script.specs.declared.script.Numbered.{Numbered}
 use Rattle.cv_session.specs.declared.seat.HeldTask.{HeldTask}
 use Rattle.cv_session.specs.declared.tasks.Taken.{Taken}
 use Rattle.cv_session.specs.declared.tasks.Taken.TheVariants as taken
 use Rattle.cv_session.specs.Responses.{job_of_task, held_by}
-use Rattle.cv_session.specs.Plays.{Awaited, Works}
+use Rattle.cv_session.specs.Plays.{Works}
 use Rattle.cv_session.specs.Entered.{IsClaim, MayDo}
-use Rattle.cv_session.specs.Seats.{Seat, now, task_of, tasks_of}
-use Rattle.cv_session.specs.Tasks.{ClaimsMore, TakesInto, Takes, Served, is_done, is_failed, is_let_go, ServesFirst, WaitsOn, open_weight, open_in, unclaimed_of, unclaimed, WaitsOnce}
+use Rattle.cv_session.specs.Covered.{Covers}
+use Rattle.cv_session.specs.Seats.{Seat, now, task_of, tasks_of, IsSeat}
+use Rattle.cv_session.specs.Tasks.{Takes, Served, is_done, is_failed, is_let_go, ServesFirst, open_weight, open_in, unclaimed_of, unclaimed, WaitsOnce}
 use Rattle.cv_session.proofs.PlayLemmas.{same_some}
 use Rattle.cv_session.proofs.MoveLemmas.{go_on}
-use Rattle.cv_session.proofs.TaskLemmas.{due_live}
+use Rattle.cv_session.proofs.CoverLemmas.{has_one, any_in}
 use Rattle.cv_session.proofs.ServeLemmas.{jobs_noted, jobs_served, works_first, works_claim, works_claim_failed}
 
 -- ---- one job changed
@@ -101,7 +100,7 @@ stands_fewer x h at job slot e live o =
 
 composed_fewer : (job : Job) → job.ended ≡ None → job.composer ≡ None → unclaimed_of (composed_by 0 job) < unclaimed_of job
 composed_fewer job live free =
-    let one : (if is_some job.composer then 0 else 1) ≡ 1 = ap (λ (o : Option ℕ). if is_some o then 0 else 1) free in
+    let one : ◌≡◌ {A = ℕ} (if is_some job.composer then 0 else 1) 1 = ap (λ (o : Option ℕ). if is_some o then 0 else 1) free in
     if_fewer (is_some job.ended) (open_in job.slots + 0) (open_in job.slots + (if is_some job.composer then 0 else 1)) (ap is_some live) (omega (arith, one))
 
 -- ---- a job that ends
@@ -268,13 +267,15 @@ once_failed old new j none live goes =
     }
 
 -- a task was claimed and is done
-pub once_held : (old mid new : Seat) (j : ℕ) → old.held ≡ [] → OfJob (now old) j (λ job. job.ended ≡ None) → Takes old mid taken.Held → ServesFirst mid new → new.held ≡ []
+pub once_held : (old mid new : Seat) (j : ℕ) → old.held ≡ [] → OfJob (now old) j (λ job. job.ended ≡ None) → Takes old mid taken.Held → ServesFirst mid new
     → WaitsOnce old new j
-once_held old mid new j none live goes f empty =
+once_held old mid new j none live goes f =
     let a = goes.0.0 in
     let t = goes.0.1.0 in
     let more = goes.0.1.1.0 in
-    let one : tasks_of mid ≡ task_of t ∷ [] = ap (map task_of) (goes.0.1.1.1 ∙ ap (λ (ts : List HeldTask). ts ++ t ∷ []) none) in
+    let alone : mid.held ≡ t ∷ [] = goes.0.1.1.1 ∙ ap (λ (ts : List HeldTask). ts ++ t ∷ []) none in
+    let one : tasks_of mid ≡ task_of t ∷ [] = ap (map task_of) alone in
+    let empty : new.held ≡ [] = f.held ∙ ap (drop 1) alone in
     let less = subst (λ (s : State). unclaimed s.jobs < unclaimed (now old).jobs) (sym more.notes.becomes) (claim_fewer (now old) a more.claim more.notes.allowed) in
     let rest = served_no_more mid.history new.history f.first f.served in
     record {
@@ -290,3 +291,37 @@ once_held old mid new j none live goes f empty =
       };
       fewer = omega (arith, less, rest);
     }
+
+pub once_done : (old new : Seat) (j : ℕ) (end : Taken) → (end ≡ taken.Hit) ⊎ (end ≡ taken.Failed) → old.held ≡ [] → OfJob (now old) j (λ job. job.ended ≡ None)
+    → Takes old new end → WaitsOnce old new j
+once_done old new j taken.Hit is none live goes = once_hit old new j none live goes
+once_done old new j taken.Failed is none live goes = once_failed old new j none live goes
+once_done old new j taken.Held is none live goes = absurd (⊎_elim (λ e. clash_hit e) (λ e. clash_failed e) is)
+  where
+    clash_hit : taken.Held ≡ taken.Hit → ⊥
+    clash_hit e = cc
+
+    clash_failed : taken.Held ≡ taken.Failed → ⊥
+    clash_failed e = cc
+once_done old new j taken.Nothing is none live goes = absurd (⊎_elim (λ e. clash_hit e) (λ e. clash_failed e) is)
+  where
+    clash_hit : taken.Nothing ≡ taken.Hit → ⊥
+    clash_hit e = cc
+
+    clash_failed : taken.Nothing ≡ taken.Failed → ⊥
+    clash_failed e = cc
+
+-- while a job without end is waited for and nothing is held, something is due
+pub not_nothing : (old new : Seat) (j : ℕ) → IsSeat old → old.held ≡ [] → OfJob (now old) j (λ job. job.ended ≡ None) → Takes old new taken.Nothing → ⊥
+not_nothing old new j seat none live goes = clash (task (now old)) due goes.0.2
+  where
+    by_job : (o : Option Job) → job_in (now old).jobs j ≡ o → IsSomeAnd o (λ job. job.ended ≡ None) → Covers (now old) [] → is_some (task (now old)) ≡ true
+    by_job None e h f = absurd h
+    by_job (Some job) e h f = task_is_due (now old) ∙ any_in (now old).jobs j job e (has_one job j h (f j job e h))
+
+    due : is_some (task (now old)) ≡ true
+    due = by_job (job_in (now old).jobs j) refl live (subst (λ (ts : List HeldTask). Covers (now old) (map task_of ts)) none seat.covers)
+
+    clash : (o : Option Task) → is_some o ≡ true → o ≡ None → ⊥
+    clash None h e = false≢true h
+    clash (Some t) h e = absurd cc

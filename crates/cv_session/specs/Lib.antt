@@ -12,3 +12,4 @@ pub mod Tasks
 pub mod Files
 pub mod Outputs
 pub mod Reports
+pub mod Runs

@@ -1,17 +1,19 @@
 -- How a session claims and does tasks.
 --
 -- Source: this project's own.
-use Rattle.std.specs.Prelude.{◌≡◌, ◌<◌, ◌+◌, ℕ, suc, true, if◌then◌else◌, List, [], ◌∷◌, ◌++◌, map, Some, None, is_some, IsSome, IsSomeAnd}
+use Rattle.std.specs.Prelude.{◌≡◌, ◌<◌, ◌+◌, ℕ, true, if◌then◌else◌, List, [], ◌∷◌, ◌++◌, map, drop, None}
+use Rattle.std.specs.Prelude.{is_some, IsSome, IsSomeAnd}
 use Rattle.std.specs.List.{AllByRecursion}
 use Rattle.cv_event.specs.declared.entry.Act.{Act}
 use Rattle.cv_event.specs.declared.entry.Act.TheVariants as act
-use Rattle.cv_event.specs.declared.entry.How.{How}
 use Rattle.cv_event.specs.declared.slot.Slot.{Slot}
 use Rattle.cv_event.specs.declared.slot.Task.{Task}
 use Rattle.cv_event.specs.declared.slot.Task.TheVariants as task_is
 use Rattle.cv_event.specs.States.{Job, State, job_in}
 use Rattle.cv_event.specs.Legality.{how, is_open, task}
 use Rattle.cv_desk.specs.Desks.{History, state, Notes}
+use Rattle.cv_desk.specs.declared.errors.ClaimError.{ClaimError}
+use Rattle.cv_desk.specs.declared.errors.ClaimError.TheVariants as claim_error
 use Rattle.cv_desk.specs.Answers.{IsOfJob}
 use Rattle.cv_script.specs.declared.script.Numbered.{Numbered}
 use Rattle.cv_session.specs.declared.seat.HeldTask.{HeldTask}
@@ -25,6 +27,10 @@ use Rattle.cv_session.specs.Seats.{Seat, now, task_of, tasks_of, IsHeldOf, Moves
 
 -- ---- a claim
 
+-- the job of the task that got no memory
+abbrev pub failed_job : ClaimError → ℕ
+failed_job (claim_error.NoMemory j) = j
+
 -- caller 0 claimed a task by an act of these histories, and holds more
 pub record ClaimsMore (old new : History) (a : Act) (more : List HeldTask) : Type 0 where
   pub claim : IsClaim a
@@ -32,8 +38,8 @@ pub record ClaimsMore (old new : History) (a : Act) (more : List HeldTask) : Typ
   pub tasks : map task_of more ≡ held_by a
   pub own : AllByRecursion (IsHeldOf new) more
 
--- a claim takes the task that is due, and puts it behind what is held unless the cache served it; where there was
--- no memory, the task's job fails; nothing is taken where nothing is due
+-- a claim takes the task that is due, and puts it behind what is held unless the cache served it; where there
+-- was no memory, the task's job fails; nothing is taken where nothing is due
 abbrev pub TakesInto : History → History → List HeldTask → List HeldTask → Taken → Type 0
 TakesInto old new held now_held taken.Hit = (a : Act) × ClaimsMore old new a [] × (now_held ≡ held)
 TakesInto old new held now_held taken.Held =
@@ -53,8 +59,8 @@ pub record IsDueOf (h : History) (t : HeldTask) : Type 0 where
   pub owed : Owes (state h) 0 (task_of t)
   pub own : IsHeldOf h t
 
--- a task is done by its entry, or its job fails in the entry's place, or it is a composition of a job that has an
--- end, and nothing is entered
+-- a task is done by its entry, or its job fails in the entry's place, or it is a composition of a job that has
+-- an end, and nothing is entered
 pub data Served (old new : History) (t : Task) : Type 0 where
   is_done : (a : Act) → MayDo t a → Notes old new 0 a → Served old new t
   is_failed : Notes old new 0 (act.Fail (job_of_task t)) → Served old new t
@@ -72,6 +78,7 @@ pub record ServesFirst (old new : Seat) : Type 0 where
   pub rest : List Task
   pub was : tasks_of old ≡ first ∷ rest
   pub becomes : tasks_of new ≡ rest
+  pub held : new.held ≡ drop 1 old.held
   pub served : Served old.history new.history first
   pub refused : new.refused ≡ old.refused
 

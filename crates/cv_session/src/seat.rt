@@ -1,12 +1,14 @@
 //! What a session keeps beside its desk, and the calls of the desk by caller 0.
 
-ghost use Rattle.std.specs.Prelude.{◌≡◌, ◌<◌, length, slice_get, set, Some, option_map, IfOk, IfSome, OnOk, OnErr};
+ghost use Rattle.std.specs.Prelude.{◌≡◌, ◌<◌, length, slice_get, set, Some, option_map};
+ghost use Rattle.std.specs.Prelude.{IfOk, IfSome, OnOk, OnErr};
 ghost use Rattle.cv_model.specs.Views.{PixelGrid};
 ghost use Rattle.cv_event.specs.declared.entry.Act.TheVariants as act;
 ghost use Rattle.cv_event.specs.States.{view_on};
 ghost use Rattle.cv_desk.specs.Answers.{StartAnswer, ViewAnswer, EndAnswer, EditAnswer};
 ghost use Rattle.cv_session.specs.Responses.{Response, last_job, at_view};
-ghost use Rattle.cv_session.specs.Seats.{Seat, now, canvas_spec, IsOfSize, Enters, Stands, EditEnters, Refuses, asked_of};
+ghost use Rattle.cv_session.specs.Seats.{Seat, now, canvas_spec, IsOfSize, Enters, Stands, EditEnters};
+ghost use Rattle.cv_session.specs.Seats.{Refuses, asked_of};
 
 use cv_chunks::Shared;
 use cv_compose::ComposeInput;

@@ -1,6 +1,7 @@
 //! The tasks of a session: claimed, done, and waited for.
 
-ghost use Rattle.std.specs.Prelude.{◌≡◌, ◌<◌, [], length, slice_get, Some, None, IfOk, OnOk, OnErr, IsSome};
+ghost use Rattle.std.specs.Prelude.{◌≡◌, ◌≤◌, ◌<◌, ◌-◌, [], ◌∷◌, ◌++◌, length, slice_get, vec_capacity};
+ghost use Rattle.std.specs.Prelude.{vec_len, Some, None, IfOk, OnOk, OnErr, IsSome};
 ghost use Rattle.cv_event.specs.declared.entry.Act.TheVariants as act;
 ghost use Rattle.cv_event.specs.declared.slot.Standing.TheVariants.{Missed};
 ghost use Rattle.cv_event.specs.declared.slot.Task.TheVariants as task_is;
@@ -11,8 +12,8 @@ ghost use Rattle.cv_desk.specs.Desks.{state, Notes};
 ghost use Rattle.cv_script.specs.declared.script.Command.TheVariants as command;
 ghost use Rattle.cv_session.specs.declared.seat.HeldTask.TheVariants as held;
 ghost use Rattle.cv_session.specs.Responses.{last_job, job_of_task};
-ghost use Rattle.cv_session.specs.Seats.{now, task_of, Obeys};
-ghost use Rattle.cv_session.specs.Tasks.{TakesInto, Takes, IsDueOf, Served, Left};
+ghost use Rattle.cv_session.specs.Seats.{IsSeat, now, task_of, Obeys};
+ghost use Rattle.cv_session.specs.Tasks.{failed_job, TakesInto, Takes, IsDueOf, Served, Left};
 ghost use Rattle.cv_session.specs.Tasks.{ServesFirst, Gives, WaitsOn, WaitsOnce};
 
 use crate::seat::{HeldTask, Session};
@@ -162,8 +163,25 @@ fn serve(alloc: Global, desk: &mut Desk, task: HeldTask) -> Result<(), NoMemory>
     }
 }
 
-/// Claims the task that is due and puts it behind those that are held, unless the cache serves it. Where there
-/// is no memory for it, its job fails.
+/// The job of which a task was due that got no memory.
+fn failed_job(error: ClaimError) -> u32
+    ensures { result ≡ failed_job error }
+{
+    match error {
+        ClaimError::NoMemory(job) => job,
+    }
+}
+
+/// Puts a task behind those that are held, at a place set aside.
+fn hold(held: &mut Vec<HeldTask>, task: HeldTask)
+    requires { 1 ≤ vec_capacity held.old - vec_len held.old }
+    ensures { held.new.items ≡ held.old.items ++ task ∷ [] }
+{
+    let _ = held.push(task);
+}
+
+/// Claims the task that is due and puts it behind those that are held, unless the cache serves it. Where
+/// there is no memory for it, its job fails.
 fn take(desk: &mut Desk, held: &mut Vec<HeldTask>) -> Result<Taken, NoMemory>
     ensures ok { IfOk result (TakesInto desk.old desk.new held.old.items held.new.items) }
     ensures err { OnErr result ((desk.new ≡ desk.old) × (held.new.items ≡ held.old.items)) }
@@ -172,22 +190,36 @@ fn take(desk: &mut Desk, held: &mut Vec<HeldTask>) -> Result<Taken, NoMemory>
     match desk.claim(0) {
         Ok(Claim::Hit(_, _)) => Ok(Taken::Hit),
         Ok(Claim::Paint(piece)) => {
-            let _ = held.push(HeldTask::Paint(piece));
+            hold(held, HeldTask::Paint(piece));
             Ok(Taken::Held)
         }
         Ok(Claim::Compose(job, input)) => {
-            let _ = held.push(HeldTask::Compose(job, input));
+            hold(held, HeldTask::Compose(job, input));
             Ok(Taken::Held)
         }
         Ok(Claim::Nothing) => Ok(Taken::Nothing),
-        Err(ClaimError::NoMemory(job)) => {
-            fail_live(desk, job);
+        Err(error) => {
+            fail_live(desk, failed_job(error));
             Ok(Taken::Failed)
         }
     }
 }
 
 impl Session {
+    /// What holds of a session, whatever was called before. It does nothing.
+    fn known(&self)
+        ensures { IsSeat self.now }
+    {
+        let _ = &self.alloc;
+    }
+
+    /// How many tasks are held.
+    fn held_count(&self) -> u64
+        ensures { result ≡ length self.now.held }
+    {
+        self.held.len() as u64
+    }
+
     /// Claims the task that is due, and holds it unless the cache serves it. Where there is no memory for it,
     /// its job fails.
     pub(crate) fn take_task(&mut self) -> Result<Taken, NoMemory>
@@ -210,7 +242,7 @@ impl Session {
         ensures gives { OnOk result (Gives self.old self.new) }
         ensures none { OnOk result (self.new.held ≡ []) }
     {
-        while !self.held.is_empty() {
+        while self.held_count() > 0 {
             self.give_first()?;
         }
         Ok(())
@@ -233,6 +265,7 @@ impl Session {
         requires live { OfJob (now self.old) job (λ j. j.ended ≡ None) }
         ensures { OnOk result (WaitsOnce self.old self.new job) }
     {
+        self.known();
         match self.take_task()? {
             Taken::Hit | Taken::Failed => Ok(()),
             Taken::Held => self.give_first(),
@@ -247,7 +280,7 @@ impl Session {
         ensures waits { OnOk result (WaitsOn self.old self.new job) }
         ensures end { IfOk result (λ end. how (now self.new) job ≡ Some end) }
     {
-        loop {
+        'wait: loop {
             if let Some(end) = self.end_of(job) {
                 return Ok(end);
             }
@@ -259,7 +292,7 @@ impl Session {
     pub(crate) fn play_take(&mut self, line: u32) -> Result<(), NoMemory>
         ensures { OnOk result (Obeys self.old self.new line command.Take []) }
     {
-        if self.held.len() >= 64 {
+        if self.held_count() >= 64 {
             return self.refuse(line, Reason::HeldFull);
         }
         match self.take_task()? {
@@ -272,7 +305,7 @@ impl Session {
     pub(crate) fn play_give(&mut self, line: u32) -> Result<(), NoMemory>
         ensures { OnOk result (Obeys self.old self.new line command.Give []) }
     {
-        if self.held.is_empty() {
+        if self.held_count() == 0 {
             self.refuse(line, Reason::NothingHeld)
         } else {
             self.give_first()

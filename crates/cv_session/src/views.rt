@@ -27,7 +27,12 @@ impl Session {
     }
 
     /// Gives a canvas a view that was made, or refuses the command by why it wasn't.
-    fn show(&mut self, line: u32, canvas: u32, made: Result<View, ViewError>) -> Result<(), NoMemory>
+    fn show(
+        &mut self,
+        line: u32,
+        canvas: u32,
+        made: Result<View, ViewError>,
+    ) -> Result<(), NoMemory>
         requires { IfOk made (IsOfSize (now self.old) canvas) }
         ensures { OnOk result (Shows self.old self.new line canvas made) }
     {

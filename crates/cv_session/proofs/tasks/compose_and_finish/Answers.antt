@@ -1,18 +1,10 @@
-use Rattle.std.proofs.Common.{rules, ◌≡◌, ◌<◌, [], length, slice_get, Some, None, IfOk, OnOk, OnErr, IsSome, ℕ, ◌+◌, ◌-◌, ◌*◌, ◌≤◌, ◌/◌, ◌%◌, Bool, true, false, nat_eq, nat_lt, List, ◌∷◌, ◌++◌, slice_index_or, slice_set, bit_and, bit_or, Fits, w8, w32, w64, Bor, MutBor}
-use Rattle.cv_event.specs.declared.entry.Act.TheVariants as act
-use Rattle.cv_event.specs.declared.slot.Standing.TheVariants.{Missed}
-use Rattle.cv_event.specs.declared.slot.Task.TheVariants as task_is
-use Rattle.cv_event.specs.States.{job_in}
-use Rattle.cv_event.specs.Legality.{OfJob, how}
-use Rattle.cv_tables.specs.Rows.{HasSlot, painting_of}
-use Rattle.cv_desk.specs.Desks.{state, Notes}
-use Rattle.cv_script.specs.declared.script.Command.TheVariants as command
-use Rattle.cv_session.specs.declared.seat.HeldTask.TheVariants as held
-use Rattle.cv_session.specs.Responses.{last_job, job_of_task}
-use Rattle.cv_session.specs.Seats.{now, task_of, Obeys}
-use Rattle.cv_session.specs.Tasks.{TakesInto, Takes, IsDueOf, Served, Left, ServesFirst, Gives, WaitsOn, WaitsOnce}
+use Rattle.std.proofs.Common.{refl, ap, sym, ◌∙◌, is_some}
+use Rattle.cv_desk.specs.Desks.{state}
+use Rattle.cv_session.specs.Tasks.{is_let_go}
+use Rattle.cv_session.proofs.TaskLemmas.{end_is}
 use Rattle.cv_session.proofs.tasks.compose_and_finish.Goals as goal
 
--- src/tasks.rt:139:1
 pub returns-in-Ok-Some : goal.returns-in-Ok-Some
-returns-in-Ok-Some c = ?
+returns-in-Ok-Some c =
+    is_let_go c.args.job refl refl
+    (ap is_some (sym (end_is (state c.args.desk.now) c.args.job c.in-Ok-Some.field-0 c.in-Ok-Some.ensures.ok)) ∙ ap is_some c.in-Ok-Some.field-0-is)

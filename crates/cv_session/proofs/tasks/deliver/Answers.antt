@@ -1,22 +1,25 @@
-use Rattle.std.proofs.Common.{rules, ◌≡◌, ◌<◌, [], length, slice_get, Some, None, IfOk, OnOk, OnErr, IsSome, ℕ, ◌+◌, ◌-◌, ◌*◌, ◌≤◌, ◌/◌, ◌%◌, Bool, true, false, nat_eq, nat_lt, List, ◌∷◌, ◌++◌, slice_index_or, slice_set, bit_and, bit_or, Fits, w8, w32, w64, Bor, MutBor}
+use Rattle.std.proofs.Common.{◌≡◌, refl, sym, subst, true, is_some}
+use Rattle.std.proofs.lemmas.Result.{on_ok_weaker}
 use Rattle.cv_event.specs.declared.entry.Act.TheVariants as act
-use Rattle.cv_event.specs.declared.slot.Standing.TheVariants.{Missed}
-use Rattle.cv_event.specs.declared.slot.Task.TheVariants as task_is
 use Rattle.cv_event.specs.States.{job_in}
-use Rattle.cv_event.specs.Legality.{OfJob, how}
-use Rattle.cv_tables.specs.Rows.{HasSlot, painting_of}
-use Rattle.cv_desk.specs.Desks.{state, Notes}
-use Rattle.cv_script.specs.declared.script.Command.TheVariants as command
-use Rattle.cv_session.specs.declared.seat.HeldTask.TheVariants as held
-use Rattle.cv_session.specs.Responses.{last_job, job_of_task}
-use Rattle.cv_session.specs.Seats.{now, task_of, Obeys}
-use Rattle.cv_session.specs.Tasks.{TakesInto, Takes, IsDueOf, Served, Left, ServesFirst, Gives, WaitsOn, WaitsOnce}
+use Rattle.cv_desk.specs.Desks.{History, state, Notes}
+use Rattle.cv_session.specs.Tasks.{is_done, is_failed}
+use Rattle.cv_session.proofs.TaskLemmas.{missed_there}
 use Rattle.cv_session.proofs.tasks.deliver.Goals as goal
+use Rattle.cv_session.proofs.tasks.deliver.Goals.{in-Ok, in-Err}
 
--- src/tasks.rt:95:19
 pub fail_task-requires : goal.fail_task-requires
-fail_task-requires c = ?
+fail_task-requires c =
+    subst (λ (h : History). is_some (job_in (state h).jobs c.args.job) ≡ true) (sym c.in-Err.ensures.err)
+    (missed_there c.args.desk.now c.args.job c.args.slot c.args.image c.requires)
 
--- src/tasks.rt:82:1
 pub returns-clause-ok : goal.returns-clause-ok
-returns-clause-ok c = ?
+returns-clause-ok c =
+    elim c.match-deliver.branch [
+      | in-Ok w ↦ rw w.result-is (rw w.desk-is (is_done (act.Deliver c.args.job c.args.slot w.in-Ok.field-0) (w.in-Ok.field-0, refl) w.in-Ok.ensures.ok))
+      | in-Err w ↦
+          rw w.result-is
+          (rw w.desk-is
+          (on_ok_weaker w.fail_task.result
+          (λ notes. is_failed (subst (λ (h : History). Notes h w.fail_task.new.desk 0 (act.Fail c.args.job)) w.in-Err.ensures.err notes)) w.fail_task.ensures.ok))
+    ]

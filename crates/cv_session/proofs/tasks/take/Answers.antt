@@ -1,26 +1,22 @@
-use Rattle.std.proofs.Common.{rules, ◌≡◌, ◌<◌, [], length, slice_get, Some, None, IfOk, OnOk, OnErr, IsSome, ℕ, ◌+◌, ◌-◌, ◌*◌, ◌≤◌, ◌/◌, ◌%◌, Bool, true, false, nat_eq, nat_lt, List, ◌∷◌, ◌++◌, slice_index_or, slice_set, bit_and, bit_or, Fits, w8, w32, w64, Bor, MutBor}
-use Rattle.cv_event.specs.declared.entry.Act.TheVariants as act
-use Rattle.cv_event.specs.declared.slot.Standing.TheVariants.{Missed}
-use Rattle.cv_event.specs.declared.slot.Task.TheVariants as task_is
-use Rattle.cv_event.specs.States.{job_in}
-use Rattle.cv_event.specs.Legality.{OfJob, how}
-use Rattle.cv_tables.specs.Rows.{HasSlot, painting_of}
-use Rattle.cv_desk.specs.Desks.{state, Notes}
-use Rattle.cv_script.specs.declared.script.Command.TheVariants as command
+use Rattle.std.proofs.Common.{ap, ◌∙◌, ◌++◌, ◌∷◌, [], List}
+use Rattle.cv_session.specs.declared.seat.HeldTask.{HeldTask}
 use Rattle.cv_session.specs.declared.seat.HeldTask.TheVariants as held
-use Rattle.cv_session.specs.Responses.{last_job, job_of_task}
-use Rattle.cv_session.specs.Seats.{now, task_of, Obeys}
-use Rattle.cv_session.specs.Tasks.{TakesInto, Takes, IsDueOf, Served, Left, ServesFirst, Gives, WaitsOn, WaitsOnce}
+use Rattle.cv_session.proofs.TaskLemmas.{failed_live, takes_piece, takes_compose}
 use Rattle.cv_session.proofs.tasks.take.Goals as goal
 
--- src/tasks.rt:184:13
 pub fail_live-requires : goal.fail_live-requires
-fail_live-requires c = ?
+fail_live-requires c = failed_live c.args.desk.now c.claim.new.self c.in-Err.error c.failed_job.result c.failed_job.ensures c.in-Err.ensures.answer c.in-Err.ensures.entry
 
--- src/tasks.rt:167:1
 pub returns-in-Ok-Paint-clause-ok : goal.returns-in-Ok-Paint-clause-ok
-returns-in-Ok-Paint-clause-ok c = ?
+returns-in-Ok-Paint-clause-ok c =
+    let answer = rw c.in-Ok-Paint.field-0-is at c.in-Ok-Paint.ensures.answer in
+    let entry = rw c.in-Ok-Paint.field-0-is at c.in-Ok-Paint.ensures.entry in
+    takes_piece c.args.desk.now c.claim.new.self c.in-Ok-Paint.piece c.args.held.now.items c.hold.new.held.items entry answer.2
+    (c.hold.ensures ∙ ap (λ (ts : List HeldTask). ts ++ held.Paint c.in-Ok-Paint.piece ∷ []) c.in_ok-reserve.ensures.items)
 
--- src/tasks.rt:167:1
 pub returns-in-Ok-Compose-clause-ok : goal.returns-in-Ok-Compose-clause-ok
-returns-in-Ok-Compose-clause-ok c = ?
+returns-in-Ok-Compose-clause-ok c =
+    let answer = rw c.in-Ok-Compose.field-0-is at c.in-Ok-Compose.ensures.answer in
+    let entry = rw c.in-Ok-Compose.field-0-is at c.in-Ok-Compose.ensures.entry in
+    takes_compose c.args.desk.now c.claim.new.self c.in-Ok-Compose.job c.in-Ok-Compose.input c.args.held.now.items c.hold-in-Ok-Compose.new.held.items entry answer.1
+    (c.hold-in-Ok-Compose.ensures ∙ ap (λ (ts : List HeldTask). ts ++ held.Compose c.in-Ok-Compose.job c.in-Ok-Compose.input ∷ []) c.in_ok-reserve.ensures.items)

@@ -1,6 +1,3 @@
-use Rattle.std.proofs.Common.{◌≡◌, refl, sym, ap, ◌∙◌, subst, List, [], ◌∷◌, Option, Some, None}
-use Rattle.cv_model.specs.declared.edit.EditError.TheVariants as error
-use Rattle.cv_event.specs.declared.refused.Reason.TheVariants as reason
 use Rattle.cv_session.proofs.ObeyLemmas.{on_ok, job_there, cancel_enters, cancel_ended}
 use Rattle.cv_session.specs.Responses.{ended_reason}
 use Rattle.cv_session.proofs.MoveLemmas.{declines_same}

@@ -1,7 +1,6 @@
-use Rattle.std.proofs.Common.{◌≡◌, refl, sym, ap, ◌∙◌, subst, List, [], ◌∷◌, Option, Some, None}
+use Rattle.std.proofs.Common.{refl}
 use Rattle.cv_event.specs.declared.entry.Act.TheVariants as act
-use Rattle.cv_session.specs.Seats.{Seat}
-use Rattle.cv_session.proofs.SeatLemmas.{seat_answers, on_err, seat_edited, seat_started}
+use Rattle.cv_session.proofs.SeatLemmas.{seat_answers, on_err}
 use Rattle.cv_session.proofs.seat.Session.fail.Goals as goal
 
 pub invariant_of-self : goal.invariant_of-self

@@ -1,5 +1,4 @@
-use Rattle.std.proofs.Common.{◌≡◌, refl, sym, ap, ◌∙◌, subst, List, [], ◌∷◌, Option, Some, None, slice_get}
-use Rattle.cv_model.specs.declared.edit.EditError.TheVariants as error
+use Rattle.std.proofs.Common.{◌∙◌, slice_get}
 use Rattle.cv_event.specs.declared.refused.Reason.TheVariants as reason
 use Rattle.cv_session.specs.Responses.{last_job}
 use Rattle.cv_session.specs.Seats.{now}

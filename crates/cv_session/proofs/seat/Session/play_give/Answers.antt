@@ -1,22 +1,13 @@
-use Rattle.std.proofs.Common.{rules, ◌≡◌, ◌<◌, [], length, slice_get, Some, None, IfOk, OnOk, OnErr, IsSome, ℕ, ◌+◌, ◌-◌, ◌*◌, ◌≤◌, ◌/◌, ◌%◌, Bool, true, false, nat_eq, nat_lt, List, ◌∷◌, ◌++◌, slice_index_or, slice_set, bit_and, bit_or, Fits, w8, w32, w64, Bor, MutBor}
-use Rattle.cv_event.specs.declared.entry.Act.TheVariants as act
-use Rattle.cv_event.specs.declared.slot.Standing.TheVariants.{Missed}
-use Rattle.cv_event.specs.declared.slot.Task.TheVariants as task_is
-use Rattle.cv_event.specs.States.{job_in}
-use Rattle.cv_event.specs.Legality.{OfJob, how}
-use Rattle.cv_tables.specs.Rows.{HasSlot, painting_of}
-use Rattle.cv_desk.specs.Desks.{state, Notes}
-use Rattle.cv_script.specs.declared.script.Command.TheVariants as command
-use Rattle.cv_session.specs.declared.seat.HeldTask.TheVariants as held
-use Rattle.cv_session.specs.Responses.{last_job, job_of_task}
-use Rattle.cv_session.specs.Seats.{now, task_of, Obeys}
-use Rattle.cv_session.specs.Tasks.{TakesInto, Takes, IsDueOf, Served, Left, ServesFirst, Gives, WaitsOn, WaitsOnce}
+use Rattle.std.proofs.lemmas.Result.{on_ok_weaker}
+use Rattle.std.proofs.Common.{◌≡◌, [], sym, ◌∙◌}
+use Rattle.cv_session.proofs.TaskLemmas.{none_held}
+use Rattle.cv_session.proofs.ServeLemmas.{give_none, give_one}
 use Rattle.cv_session.proofs.seat.Session.play_give.Goals as goal
 
--- src/tasks.rt:272:5
-pub returns-then-is_empty : goal.returns-then-is_empty
-returns-then-is_empty c = ?
+pub returns-then-held_count-eq0 : goal.returns-then-held_count-eq0
+returns-then-held_count-eq0 c =
+    let none : c.args.self.now.held ≡ [] = none_held c.args.self.now.held (sym c.held_count.ensures ∙ c.if-held_count-eq0.true) in
+    on_ok_weaker c.refuse.result (give_none c.args.self.now c.refuse.new.self c.args.line none) c.refuse.ensures
 
--- src/tasks.rt:272:5
-pub returns-else-is_empty : goal.returns-else-is_empty
-returns-else-is_empty c = ?
+pub returns-else-held_count-eq0 : goal.returns-else-held_count-eq0
+returns-else-held_count-eq0 c = on_ok_weaker c.give_first.result (give_one c.args.self.now c.give_first.new.self c.args.line) c.give_first.ensures

@@ -1,7 +1,6 @@
-use Rattle.std.proofs.Common.{◌≡◌, refl, sym, ap, ◌∙◌, subst, List, [], ◌∷◌, Option, Some, None, IfOk, w32}
+use Rattle.std.proofs.Common.{refl, sym, ap, ◌∙◌, subst, IfOk, w32}
 use Rattle.std.proofs.lemmas.Int.{to_z-of_z}
-use Rattle.cv_event.specs.declared.refused.Reason.TheVariants as reason
-use Rattle.cv_geom.specs.Views.{view_of, pan, zoom}
+use Rattle.cv_geom.specs.Views.{pan}
 use Rattle.cv_script.specs.declared.script.Command.TheVariants as command
 use Rattle.cv_session.specs.Responses.{shows}
 use Rattle.cv_session.specs.Seats.{now, IsOfSize}

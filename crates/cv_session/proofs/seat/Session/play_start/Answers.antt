@@ -1,5 +1,3 @@
-use Rattle.std.proofs.Common.{◌≡◌, refl, sym, ap, ◌∙◌, subst, List, [], ◌∷◌, Option, Some, None}
-use Rattle.cv_model.specs.declared.edit.EditError.TheVariants as error
 use Rattle.cv_event.specs.declared.refused.Reason.TheVariants as reason
 use Rattle.cv_session.proofs.ObeyLemmas.{on_ok, none_is, start_enters, start_unknown, start_no_view, start_too_many}
 use Rattle.cv_session.proofs.MoveLemmas.{declines_behind}

@@ -1,26 +1,23 @@
-use Rattle.std.proofs.Common.{rules, ◌≡◌, ◌<◌, [], length, slice_get, Some, None, IfOk, OnOk, OnErr, IsSome, ℕ, ◌+◌, ◌-◌, ◌*◌, ◌≤◌, ◌/◌, ◌%◌, Bool, true, false, nat_eq, nat_lt, List, ◌∷◌, ◌++◌, slice_index_or, slice_set, bit_and, bit_or, Fits, w8, w32, w64, Bor, MutBor}
-use Rattle.cv_event.specs.declared.entry.Act.TheVariants as act
-use Rattle.cv_event.specs.declared.slot.Standing.TheVariants.{Missed}
-use Rattle.cv_event.specs.declared.slot.Task.TheVariants as task_is
-use Rattle.cv_event.specs.States.{job_in}
-use Rattle.cv_event.specs.Legality.{OfJob, how}
-use Rattle.cv_tables.specs.Rows.{HasSlot, painting_of}
-use Rattle.cv_desk.specs.Desks.{state, Notes}
-use Rattle.cv_script.specs.declared.script.Command.TheVariants as command
-use Rattle.cv_session.specs.declared.seat.HeldTask.TheVariants as held
-use Rattle.cv_session.specs.Responses.{last_job, job_of_task}
-use Rattle.cv_session.specs.Seats.{now, task_of, Obeys}
-use Rattle.cv_session.specs.Tasks.{TakesInto, Takes, IsDueOf, Served, Left, ServesFirst, Gives, WaitsOn, WaitsOnce}
+use Rattle.std.proofs.lemmas.Result.{on_ok_weaker}
+use Rattle.std.proofs.Common.{◌≤◌, ◌<◌, length, arith}
+use Rattle.cv_session.proofs.ServeLemmas.{take_full, take_nothing, take_some}
 use Rattle.cv_session.proofs.seat.Session.play_take.Goals as goal
 
--- src/tasks.rt:263:13
-pub returns-then-len-ge64 : goal.returns-then-len-ge64
-returns-then-len-ge64 c = ?
+pub returns-then-held_count-ge64 : goal.returns-then-held_count-ge64
+returns-then-held_count-ge64 c =
+    let same = c.held_count.ensures in
+    let many : 64 ≤ length c.args.self.now.held = omega (arith, same, c.if-held_count-ge64.true) in
+    on_ok_weaker c.refuse.result (take_full c.args.self.now c.refuse.new.self c.args.line many) c.refuse.ensures
 
--- src/tasks.rt:259:5
 pub returns-in-Hit : goal.returns-in-Hit
-returns-in-Hit c = ?
+returns-in-Hit c =
+    let same = c.held_count.ensures in
+    let few : length c.args.self.now.held < 64 = omega (arith, same, c.if-held_count-ge64.false) in
+    take_some c.args.self.now c.take_task.new.self c.args.line c.in_ok-take_task.field-0 few c.in-Hit.is c.in_ok-take_task.ensures
 
--- src/tasks.rt:259:5
 pub returns-in-Nothing : goal.returns-in-Nothing
-returns-in-Nothing c = ?
+returns-in-Nothing c =
+    let same = c.held_count.ensures in
+    let few : length c.args.self.now.held < 64 = omega (arith, same, c.if-held_count-ge64.false) in
+    on_ok_weaker c.refuse-in-Nothing.result
+    (take_nothing c.args.self.now c.take_task.new.self c.refuse-in-Nothing.new.self c.args.line few (rw c.in-Nothing.is at c.in_ok-take_task.ensures)) c.refuse-in-Nothing.ensures

@@ -1,10 +1,7 @@
-use Rattle.std.proofs.Common.{◌≡◌, refl, sym, ap, ◌∙◌, subst, List, [], ◌∷◌, Option, Some, None, IfOk, length}
-use Rattle.cv_event.specs.declared.refused.Reason.TheVariants as reason
-use Rattle.cv_geom.specs.Views.{view_of, pan, zoom}
+use Rattle.std.proofs.Common.{refl, sym, ap, ◌∙◌, subst, IfOk, length}
 use Rattle.cv_script.specs.declared.script.Command.TheVariants as command
 use Rattle.cv_session.specs.Responses.{shows}
 use Rattle.cv_session.specs.Seats.{now, tasks_of, IsOfSize}
-use Rattle.cv_session.proofs.MoveLemmas.{declines, denies}
 use Rattle.cv_session.proofs.ObeyLemmas.{on_ok}
 use Rattle.cv_session.proofs.ViewLemmas.{view_of_size, shown, view_response, view_unknown}
 use Rattle.cv_session.proofs.seat.Session.play_view.Goals as goal

@@ -1,6 +1,5 @@
-use Rattle.std.proofs.Common.{◌≡◌, refl, sym, ap, ◌∙◌, subst, List, [], ◌∷◌, Option, Some, None, IfOk}
-use Rattle.cv_event.specs.declared.refused.Reason.TheVariants as reason
-use Rattle.cv_geom.specs.Views.{view_of, pan, zoom}
+use Rattle.std.proofs.Common.{refl, sym, ap, ◌∙◌, subst, IfOk}
+use Rattle.cv_geom.specs.Views.{zoom}
 use Rattle.cv_script.specs.declared.script.Command.TheVariants as command
 use Rattle.cv_session.specs.Responses.{shows}
 use Rattle.cv_session.specs.Seats.{now, IsOfSize}

@@ -1,18 +1,16 @@
-use Rattle.std.proofs.Common.{rules, ◌≡◌, ◌<◌, [], length, slice_get, Some, None, IfOk, OnOk, OnErr, IsSome, ℕ, ◌+◌, ◌-◌, ◌*◌, ◌≤◌, ◌/◌, ◌%◌, Bool, true, false, nat_eq, nat_lt, List, ◌∷◌, ◌++◌, slice_index_or, slice_set, bit_and, bit_or, Fits, w8, w32, w64, Bor, MutBor}
-use Rattle.cv_event.specs.declared.entry.Act.TheVariants as act
-use Rattle.cv_event.specs.declared.slot.Standing.TheVariants.{Missed}
-use Rattle.cv_event.specs.declared.slot.Task.TheVariants as task_is
-use Rattle.cv_event.specs.States.{job_in}
-use Rattle.cv_event.specs.Legality.{OfJob, how}
-use Rattle.cv_tables.specs.Rows.{HasSlot, painting_of}
-use Rattle.cv_desk.specs.Desks.{state, Notes}
-use Rattle.cv_script.specs.declared.script.Command.TheVariants as command
-use Rattle.cv_session.specs.declared.seat.HeldTask.TheVariants as held
-use Rattle.cv_session.specs.Responses.{last_job, job_of_task}
-use Rattle.cv_session.specs.Seats.{now, task_of, Obeys}
-use Rattle.cv_session.specs.Tasks.{TakesInto, Takes, IsDueOf, Served, Left, ServesFirst, Gives, WaitsOn, WaitsOnce}
+use Rattle.std.proofs.Common.{refl}
+use Rattle.cv_session.specs.Seats.{Seat}
+use Rattle.cv_session.proofs.TaskLemmas.{seat_taken_by}
 use Rattle.cv_session.proofs.seat.Session.take_task.Goals as goal
 
--- src/tasks.rt:193:5
 pub invariant_of-self : goal.invariant_of-self
-invariant_of-self c = ?
+invariant_of-self c =
+    let old : Seat = record {
+      history = c.self.inside.desk;
+      held = c.self.inside.held.items;
+      specs = c.self.inside.specs.items;
+      lasts = c.self.inside.lasts.items;
+      refused = c.self.inside.refused;
+    } in
+    let new : Seat = record old { history = c.take.new.desk; held = c.take.new.held.items } in
+    seat_taken_by old new c.take.result c.self.invariant c.take.ensures.ok c.take.ensures.err refl refl

@@ -1,26 +1,17 @@
-use Rattle.std.proofs.Common.{rules, ◌≡◌, ◌<◌, [], length, slice_get, Some, None, IfOk, OnOk, OnErr, IsSome, ℕ, ◌+◌, ◌-◌, ◌*◌, ◌≤◌, ◌/◌, ◌%◌, Bool, true, false, nat_eq, nat_lt, List, ◌∷◌, ◌++◌, slice_index_or, slice_set, bit_and, bit_or, Fits, w8, w32, w64, Bor, MutBor}
-use Rattle.cv_event.specs.declared.entry.Act.TheVariants as act
-use Rattle.cv_event.specs.declared.slot.Standing.TheVariants.{Missed}
-use Rattle.cv_event.specs.declared.slot.Task.TheVariants as task_is
-use Rattle.cv_event.specs.States.{job_in}
-use Rattle.cv_event.specs.Legality.{OfJob, how}
-use Rattle.cv_tables.specs.Rows.{HasSlot, painting_of}
-use Rattle.cv_desk.specs.Desks.{state, Notes}
-use Rattle.cv_script.specs.declared.script.Command.TheVariants as command
-use Rattle.cv_session.specs.declared.seat.HeldTask.TheVariants as held
-use Rattle.cv_session.specs.Responses.{last_job, job_of_task}
-use Rattle.cv_session.specs.Seats.{now, task_of, Obeys}
-use Rattle.cv_session.specs.Tasks.{TakesInto, Takes, IsDueOf, Served, Left, ServesFirst, Gives, WaitsOn, WaitsOnce}
+use Rattle.std.proofs.lemmas.Result.{on_ok_weaker}
+use Rattle.cv_session.proofs.WaitLemmas.{once_done, once_held, not_nothing}
 use Rattle.cv_session.proofs.seat.Session.work_once.Goals as goal
 
--- src/tasks.rt:239:31
 pub unreachable-requires : goal.unreachable-requires
-unreachable-requires c = ?
+unreachable-requires c =
+    not_nothing c.args.self.now c.take_task.new.self c.args.job c.known.ensures c.requires.none c.requires.live (rw c.in-Nothing.is at c.in_ok-take_task.ensures)
 
--- src/tasks.rt:231:5
 pub returns-in-Hit : goal.returns-in-Hit
-returns-in-Hit c = ?
+returns-in-Hit c =
+    once_done c.args.self.now c.take_task.new.self c.args.job c.in_ok-take_task.field-0 c.in-Hit.is c.requires.none c.requires.live c.in_ok-take_task.ensures
 
--- src/tasks.rt:231:5
 pub returns-in-Held : goal.returns-in-Held
-returns-in-Held c = ?
+returns-in-Held c =
+    on_ok_weaker c.give_first.result
+    (once_held c.args.self.now c.take_task.new.self c.give_first.new.self c.args.job c.requires.none c.requires.live (rw c.in-Held.is at c.in_ok-take_task.ensures))
+    c.give_first.ensures
