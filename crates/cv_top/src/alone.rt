@@ -1,6 +1,7 @@
 //! The words behind `session`, read by hand: two names, and somewhere the option with no workers.
 
-ghost use Rattle.std.specs.Prelude.{◌≡◌, ◌↔◌, ◌++◌, ◌∷◌, [], Some, IfSome, IsTrue, option_map, codes, List, ℕ};
+ghost use Rattle.std.specs.Prelude.{◌≡◌, ◌↔◌, ◌++◌, ◌∷◌, [], List, ℕ, Some, IfSome, option_map, IsTrue};
+ghost use Rattle.std.specs.Prelude.{codes};
 ghost use Rattle.cv_top.specs.Parts.{SessionParts};
 ghost use Rattle.cv_top.specs.Words.{IsNamed, IsAlone, IsSession};
 

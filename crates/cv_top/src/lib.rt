@@ -28,4 +28,6 @@ mod check_tests;
 #[cfg(test)]
 mod paint_tests;
 #[cfg(test)]
+mod session_tests;
+#[cfg(test)]
 mod tests;

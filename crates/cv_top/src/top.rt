@@ -30,8 +30,8 @@ use std::thread::Threads;
 /// counted from 0, shows at first, writes the picture as a pixmap, and prints `image w h`. A canvas that
 /// isn't there or has no extent is refused before any layer is read.
 ///
-/// `session <project> <script> --workers 0`, where the option may stand in front of either name too, opens the
-/// project in the same way, reads the script, gives each canvas with an extent its first view, plays the
+/// `session <project> <script> --workers 0`, where the option may stand in front of either name too, opens
+/// the project in the same way, reads the script, gives each canvas with an extent its first view, plays the
 /// script, whose `preview` and `save` write their pictures at once, and prints the journal. A script that
 /// isn't in the grammar is refused before anything is played. A session in which a task got no memory prints
 /// its journal too, and ends for want of memory.
