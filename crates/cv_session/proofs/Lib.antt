@@ -1,4 +1,5 @@
 -- Lemmas on plays.
+pub mod PlayableLemmas
 pub mod PlayLemmas
 pub mod OneLemmas
 pub mod ScriptLemmas

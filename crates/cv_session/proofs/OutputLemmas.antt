@@ -12,7 +12,7 @@ use Rattle.cv_outside.specs.Counts.{Rose}
 use Rattle.cv_model.specs.Layers.{Opening}
 use Rattle.cv_model.specs.Views.{PixelGrid}
 use Rattle.cv_event.specs.Legality.{IsLegal}
-use Rattle.cv_script.specs.Scripts.{IsScript}
+use Rattle.cv_session.specs.Playable.{IsPlayable}
 use Rattle.cv_outside.specs.Seen.{NamedFiles, TraySeen}
 use Rattle.cv_outside.specs.Writes.{OthersStay}
 use Rattle.cv_event.specs.declared.entry.Act.{Act}
@@ -434,7 +434,7 @@ last_unknown s c j h e = let there = last_is_there s c j h in absurd (none (sym 
 
 -- a script that is through
 pub run_done : (o : Opening) (views : List (Option PixelGrid)) (script : List Numbered) (r : Report) (last : Play) (tray tray' : TraySeen)
-    → IsScript script → IsLegal o r.journal.entries → Plays 0 (at_first o views script) r.journal.entries last → IsThrough last → last.refused ≡ r.refused
+    → IsPlayable script → IsLegal o r.journal.entries → Plays 0 (at_first o views script) r.journal.entries last → IsThrough last → last.refused ≡ r.refused
     → r.images ≡ length last.written → (IsTrue tray.tells → Puts last.written tray.files tray'.files) → RunDone o views script r tray tray'
 run_done o views script r last tray tray' is legal plays through refused images puts =
     let written : last.written ≡ reported o script r = files_are_writes o views script 0 r.journal.entries last is legal plays ∙ ap (writes o script r.journal.entries) refused in
@@ -471,7 +471,7 @@ pub record IsCut (o : Opening) (views : List (Option PixelGrid)) (script : List 
   pub others : IsTrue tray.tells → OthersStay mid tray'.files file.name
 
 pub run_broken : (o : Opening) (views : List (Option PixelGrid)) (script : List Numbered) (image : ℕ) (r : Report) (tray tray' : TraySeen)
-    → IsScript script → IsLegal o r.journal.entries → image ≡ suc r.images → Rose tray.faults tray'.faults → IsCut o views script r tray tray'
+    → IsPlayable script → IsLegal o r.journal.entries → image ≡ suc r.images → Rose tray.faults tray'.faults → IsCut o views script r tray tray'
     → RunBroken o views script image r tray tray'
 run_broken o views script image r tray tray' is legal number fault k =
     let plays = subst (λ (es : List Entry). Plays 0 (at_first o views script) es k.new) (sym k.entries) (joined k.second k.new k.reaches k.cuts) in

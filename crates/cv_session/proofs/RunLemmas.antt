@@ -17,7 +17,8 @@ use Rattle.cv_event.specs.declared.entry.Entry.{Entry}
 use Rattle.cv_event.specs.Legality.{IsLegal}
 use Rattle.cv_event.specs.States.{Job, Canvas, State, job_in, new_canvas, begin}
 use Rattle.cv_script.specs.declared.script.Numbered.{Numbered}
-use Rattle.cv_script.specs.Scripts.{IsScript, HasFactors}
+use Rattle.cv_script.specs.Scripts.{HasFactors}
+use Rattle.cv_session.specs.Playable.{IsPlayable}
 use Rattle.cv_session.specs.Responses.{last_job}
 use Rattle.cv_session.specs.Plays.{Opens, Begins, Closes, Written, Play, due_in, next, Plays}
 use Rattle.cv_session.specs.Follows.{at_first}
@@ -184,7 +185,7 @@ pub fits_next : (b d : Seat) (n : Numbered) (more : ℕ) (u v : TraySeen) → Fi
 fits_next b d n more u v fits g = subst FitsOpening (sym (g.obeys []).opening) fits
 
 -- the numbers of a zoom
-pub factors_at : (cs : List Numbered) (i : ℕ) (n : Numbered) → i < length cs → n ≡ get_or cs i n → IsScript cs → HasFactors n.command
+pub factors_at : (cs : List Numbered) (i : ℕ) (n : Numbered) → i < length cs → n ≡ get_or cs i n → IsPlayable cs → HasFactors n.command
 factors_at cs i n low e is = subst (λ (m : Numbered). HasFactors m.command) (sym e) (All-get_or (λ (m : Numbered). HasFactors m.command) cs i n low is.factors)
 
 -- the command whose write failed
@@ -242,7 +243,7 @@ fits_shown o views s0 s1 fits opened shown = subst FitsOpening (sym ((shown []).
 
 -- what a whole run leaves
 pub run_ends : (o : Opening) (views : List (Option PixelGrid)) (script : List Numbered) (s0 s1 s2 s3 : Seat) (r : Report) (images : ℕ) (tray tray' : TraySeen)
-    → IsScript script → IsOpened o s0 → ShowsAll s0 s1 views → Through script s1 s2 [] images tray tray' → Ends s2 s3
+    → IsPlayable script → IsOpened o s0 → ShowsAll s0 s1 views → Through script s1 s2 [] images tray tray' → Ends s2 s3
     → IsLegal s3.history.opening s3.history.journal → r.journal.entries ≡ s3.history.journal → r.refused ≡ s3.refused → r.images ≡ images
     → RunDone o views script r tray tray'
 run_ends o views script s0 s1 s2 s3 r images tray tray' is opened shown through ends legal entries refused count =
@@ -262,7 +263,7 @@ rose_from m n k low h = ⊎_elim (λ f. inl (omega (arith, low, f))) (λ f. inr 
 
 -- what a run leaves whose tray failed
 pub run_cut : (o : Opening) (views : List (Option PixelGrid)) (script : List Numbered) (s0 s1 s2 : Seat) (r : Report) (image : ℕ) (tray tray' : TraySeen)
-    → IsScript script → IsOpened o s0 → ShowsAll s0 s1 views → Cut script s1 s2 image tray tray'
+    → IsPlayable script → IsOpened o s0 → ShowsAll s0 s1 views → Cut script s1 s2 image tray tray'
     → IsLegal s2.history.opening s2.history.journal → r.journal.entries ≡ s2.history.journal → r.refused ≡ s2.refused → image ≡ suc r.images
     → RunBroken o views script image r tray tray'
 run_cut o views script s0 s1 s2 r image tray tray' is opened shown k legal entries refused count =

@@ -31,7 +31,7 @@ use Rattle.cv_event.proofs.ShownLemmas.{published_is_last_finished}
 use Rattle.cv_script.specs.declared.script.Command.{Command}
 use Rattle.cv_script.specs.declared.script.Command.TheVariants as command
 use Rattle.cv_script.specs.declared.script.Numbered.{Numbered}
-use Rattle.cv_script.specs.Scripts.{AscendFrom, IsScript}
+use Rattle.cv_session.specs.Playable.{Ascends, IsPlayable}
 use Rattle.cv_session.specs.Follows.{at_first}
 use Rattle.cv_session.specs.Responses.{last_from, last_job, edit_reason}
 use Rattle.cv_session.specs.Plays.{Written, Mode, Opens, Begins, GivesOne, GivesAll, Works, Closes, Play, entered, refusals, picture_by, file_of, file_with, written_by, through, next_in, next, entry_by}
@@ -347,7 +347,7 @@ avoids_played (other a c e es low_caller high is r) l low f = avoids_played r l 
 -- the commands that are left stand in lines from this one on, and what was refused or begun in lines before it
 pub record Lines (k : ℕ) (a : Play) : Type 0 where
   pub positive : 1 ≤ k
-  pub commands : AscendFrom k a.commands
+  pub commands : Ascends k a.commands
   pub refused : AllByRecursion (λ (r : Refused). r.line < k) a.refused
   pub mode : line_of a.mode < k
 
@@ -360,10 +360,10 @@ below_later : (k m : ℕ) (xs : List Refused) → k ≤ m → AllByRecursion (λ
 below_later k m [] l f = tt
 below_later k m (x ∷ xs) l f = (omega (arith, l, f.0), below_later k m xs l f.1)
 
-first_line : (k : ℕ) (n : Numbered) (cs rest : List Numbered) → cs ≡ n ∷ rest → AscendFrom k cs → (k ≤ n.line) × AscendFrom (n.line + 1) rest
+first_line : (k : ℕ) (n : Numbered) (cs rest : List Numbered) → cs ≡ n ∷ rest → Ascends k cs → (k ≤ n.line) × Ascends (n.line + 1) rest
 first_line k n cs rest e f =
-    let g = subst (AscendFrom k) e f in
-    (g.0, g.2)
+    let g = subst (Ascends k) e f in
+    (g.0, g.1)
 
 low_line : (x y k : ℕ) → IsLineOf x y → 1 ≤ k → y < k → x < k
 low_line x y k o p h = ⊎_elim (λ e. omega (arith, e, p)) (λ e. omega (arith, e, h)) o
@@ -423,7 +423,7 @@ lines_silent {a} (ends_badly w m e g) k f = (
 lines_same : (a b : Play) (k : ℕ) → IsSame a b → Lines k a → Lines k b
 lines_same a b k s f = record {
   positive = f.positive;
-  commands = subst (AscendFrom k) (sym s.commands) f.commands;
+  commands = subst (Ascends k) (sym s.commands) f.commands;
   refused = subst (AllByRecursion (λ (r : Refused). r.line < k)) (sym s.refused) f.refused;
   mode = low_line _ _ k s.line f.positive f.mode;
 }
@@ -452,10 +452,10 @@ none_below : (k l : ℕ) (xs : List Refused) → k ≤ l → AllByRecursion (λ 
 none_below k l [] h f = refl
 none_below k l (x ∷ xs) h f = ap (λ (b : Bool). b || is_refused xs l) (other_line x.line l (λ e. absurd (omega (arith, e, h, f.0)))) ∙ none_below k l xs h f.1
 
-others_behind : (k l : ℕ) (cs : List Numbered) → l < k → AscendFrom k cs → AllByRecursion (IsOther l) cs
+others_behind : (k l : ℕ) (cs : List Numbered) → l < k → Ascends k cs → AllByRecursion (IsOther l) cs
 others_behind k l [] h f = tt
 others_behind k l (c ∷ cs) h f =
-    (other_line c.line l (λ e. absurd (omega (arith, e, h, f.0))), others_behind (c.line + 1) l cs (omega (arith, h, f.0)) f.2)
+    (other_line c.line l (λ e. absurd (omega (arith, e, h, f.0))), others_behind (c.line + 1) l cs (omega (arith, h, f.0)) f.1)
 
 through_avoids : (a : Play) (d : Act) (n : Numbered) (rest : List Numbered) (k : ℕ) → a.commands ≡ n ∷ rest
     → ((line seen : ℕ) → refusals line seen d ≡ []) → Lines k a → Avoids n.line (through (n ∷ rest) d (entered d a))
@@ -679,7 +679,7 @@ lines_played (failed a c j es e r) k f =
 lines_played (other a c e es low high is r) k f =
     lines_played r k (record { positive = f.positive; commands = f.commands; refused = f.refused; mode = f.mode })
 
-pub not_refused_yet : (o : Opening) (views : List (Option PixelGrid)) (script : List Numbered) (b : Play) (n : Numbered) (rest : List Numbered) {es : List Entry} → IsScript script
+pub not_refused_yet : (o : Opening) (views : List (Option PixelGrid)) (script : List Numbered) (b : Play) (n : Numbered) (rest : List Numbered) {es : List Entry} → IsPlayable script
     → Plays 0 (at_first o views script) es b → b.commands ≡ n ∷ rest → is_refused b.refused n.line ≡ false
 not_refused_yet o views script b n rest is plays c =
     let more = lines_played plays 1 (record { positive = omega arith; commands = is.ascend; refused = tt; mode = omega arith }) in

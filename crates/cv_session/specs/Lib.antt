@@ -4,6 +4,7 @@ pub mod Plays
 pub mod Writes
 pub mod Follows
 pub mod Entered
+pub mod Playable
 pub mod Laws
 pub mod HeldLaws
 pub mod Covered

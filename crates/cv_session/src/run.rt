@@ -4,7 +4,8 @@ ghost use Rattle.std.specs.Prelude.{◌≡◌, ◌≤◌, None, [], length, repl
 ghost use Rattle.cv_event.specs.Legality.{IsLegal};
 ghost use Rattle.cv_event.specs.TextLaws.{FitsOpening};
 ghost use Rattle.cv_outside.specs.Seen.{tray_seen, TrayStands};
-ghost use Rattle.cv_script.specs.Scripts.{IsScript, HasFactors};
+ghost use Rattle.cv_script.specs.Scripts.{HasFactors};
+ghost use Rattle.cv_session.specs.Playable.{IsPlayable};
 ghost use Rattle.cv_script.specs.declared.script.Command.TheVariants as command;
 ghost use Rattle.cv_store.specs.Stores.{project_of};
 ghost use Rattle.cv_session.specs.Files.{Spares, SparesOne};
@@ -168,7 +169,7 @@ impl Session {
     /// Plays commands in order. Answers how many files they wrote.
     fn play_all<T: Tray>(&mut self, script: &[Numbered], tray: &mut T) -> Result<u32, Halt>
         requires fits { FitsOpening self.old.history.opening }
-        requires script { IsScript script.now }
+        requires script { IsPlayable script.now }
         ensures stands { TrayStands (tray_seen T.Tray tray.old) (tray_seen T.Tray tray.new) }
         ensures ends { AllEnd script.now self.old self.new result
             (tray_seen T.Tray tray.old) (tray_seen T.Tray tray.new) }
@@ -226,7 +227,7 @@ pub fn run_alone<T: Tray>(
     requires first { store.version ≡ 1 }
     requires fits { FitsOpening (record { project = project_of store; canvases = specs.now }) }
     requires views { AreFirst specs.now views.now }
-    requires script { IsScript script.now }
+    requires script { IsPlayable script.now }
     ensures stands { TrayStands (tray_seen T.Tray tray.old) (tray_seen T.Tray tray.new) }
     ensures ends { RunEnds (record { project = project_of store; canvases = specs.now }) views.now script.now
         result (tray_seen T.Tray tray.old) (tray_seen T.Tray tray.new) }

@@ -2,14 +2,14 @@
 use Rattle.std.proofs.Common.{◌≤◌, drop, IsTrue}
 use Rattle.cv_event.specs.TextLaws.{FitsOpening}
 use Rattle.cv_outside.specs.Seen.{tray_seen, TrayStands}
-use Rattle.cv_script.specs.Scripts.{IsScript}
+use Rattle.cv_session.specs.Playable.{IsPlayable}
 use Rattle.cv_session.specs.Files.{Spares}
 use Rattle.cv_session.specs.Runs.{Through}
 use Rattle.cv_session.proofs.seat.Session.play_all.Given as goal
 
 abbrev pub invariant-loop-next : goal.invariant-loop-next
 invariant-loop-next g l = record {
-  script : IsScript l.script;
+  script : IsPlayable l.script;
   fits : FitsOpening l.self.history.opening;
   few : l.images ≤ l.next-index;
   stands : TrayStands (tray_seen g.T.Tray l.fn.tray) (tray_seen g.T.Tray l.tray);
