@@ -100,7 +100,8 @@ impl Session {
         ensures ends { CommandEnds self.old self.new line (command.Preview canvas file.now) result
             (tray_seen T.Tray tray.old) (tray_seen T.Tray tray.new) }
         ensures spares { IsTrue (tray_seen T.Tray tray.old).tells
-            → SparesOne (command.Preview canvas file.now) (tray_seen T.Tray tray.old).files (tray_seen T.Tray tray.new).files }
+            → SparesOne (command.Preview canvas file.now)
+            (tray_seen T.Tray tray.old).files (tray_seen T.Tray tray.new).files }
     {
         let input = match self.preview(job) {
             Ok(input) => input,
@@ -129,7 +130,8 @@ impl Session {
         ensures ends { CommandEnds self.old self.new line (command.Preview canvas file.now) result
             (tray_seen T.Tray tray.old) (tray_seen T.Tray tray.new) }
         ensures spares { IsTrue (tray_seen T.Tray tray.old).tells
-            → SparesOne (command.Preview canvas file.now) (tray_seen T.Tray tray.old).files (tray_seen T.Tray tray.new).files }
+            → SparesOne (command.Preview canvas file.now)
+            (tray_seen T.Tray tray.old).files (tray_seen T.Tray tray.new).files }
     {
         match self.last(canvas) {
             Some(Some(job)) => self.preview_job(line, canvas, job, file, tray),
