@@ -84,6 +84,7 @@ text_told memory NoMemory text tray out out' w = by memory
       tray_stands = w.tray_stands;
       out_stands = w.out_stands;
     }
+
     by : (b : Bool) → IsWritten (if b then NoMemory else lacking NoMemory) (Told memory [] text) tray tray out out'
     by true = kept
     by false = kept
@@ -91,6 +92,7 @@ text_told memory (WriteFault Text) text tray out out' w = by memory
   where
     kept : IsWritten (WriteFault Text) (Told memory [] text) tray tray out out'
     kept = record { cause = w.cause; outputs = w.outputs; text = w.text; tray_stands = w.tray_stands; out_stands = w.out_stands }
+
     by : (b : Bool) → IsWritten (if b then WriteFault Text else lacking (WriteFault Text)) (Told memory [] text) tray tray out out'
     by true = kept
     by false = kept
@@ -161,8 +163,10 @@ done_played s r end tray tray' out out' stands run w = by_memory (list_all (λ (
   where
     files : List Written
     files = reported (opening_in s.opened) s.script r
+
     text : List ℕ
     text = journal_text r.journal.entries r.refused r.images
+
     play : (P : List Entry → Type 0) → P r.journal.entries → IsPlay s files text P
     play P holds = record {
       journal = r.journal.entries;
@@ -173,6 +177,7 @@ done_played s r end tray tray' out out' stands run w = by_memory (list_all (λ (
       text_is = ap (journal_text r.journal.entries r.refused) run.images;
       holds = holds;
     }
+
     by_memory : (memory : Bool) → list_all (λ (entry : Entry). is_no_fail entry.act) r.journal.entries ≡ memory → IsWritten end (Told memory [] text) tray' tray' out out'
         → IsPlayRun s end tray tray' out out'
     by_memory true e w = (Told true files text, play HasMemory e, with_files true end files text tray tray' out out' stands run.puts w)

@@ -36,7 +36,11 @@ pub(super) struct After {
 }
 
 // A run over these files: its end, how many names were asked, and what was printed.
-pub(super) fn painted(alloc: Global, line: &str, pairs: &[(&str, &str)]) -> Result<After, AllocError> {
+pub(super) fn painted(
+    alloc: Global,
+    line: &str,
+    pairs: &[(&str, &str)],
+) -> Result<After, AllocError> {
     let mut shelf = MemShelf::new(alloc, files_of(alloc, pairs)?, Vec::new(alloc));
     let mut tray = SureTray::new(alloc, BTreeMap::new(alloc));
     let mut out = SureSink::new(Vec::new(alloc));

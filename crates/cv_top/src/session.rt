@@ -104,12 +104,7 @@ fn end_of_error(error: &SessionError) -> End
 }
 
 /// Plays the script on the project, and prints the journal.
-fn play_staged<T: Tray, O: Sink>(
-    alloc: Global,
-    staged: Staged,
-    tray: &mut T,
-    out: &mut O,
-) -> End
+fn play_staged<T: Tray, O: Sink>(alloc: Global, staged: Staged, tray: &mut T, out: &mut O) -> End
     requires can { CanOpen staged.opened.file staged.opened.contents }
     requires script { IsScript staged.script }
     ensures untouched { Untouched result ⊥ ⊥ (out.new ≡ out.old) }

@@ -10,7 +10,8 @@ use std::collections::BTreeMap;
 use std::test::Fail;
 
 // A canvas without layers.
-const BLANK: &str = "{\"version\":1,\"background\":\"102030\",\"canvases\":[{\"width\":2,\"height\":1,\
+const BLANK: &str =
+    "{\"version\":1,\"background\":\"102030\",\"canvases\":[{\"width\":2,\"height\":1,\
     \"extent\":[\"0\",\"0\",\"2\",\"1\"]}],\"layers\":[]}";
 
 const ALONE: &str = "session two.json s.txt --workers 0";
@@ -47,11 +48,15 @@ fn a_canvas_without_layers_is_saved(rt: HostRuntime) -> Result<(), Fail> {
     let alloc = rt.alloc();
     let pairs = [("p", BLANK), ("s", "start 0\nwait 0\nsave 0 z.ppm\n")];
     let found = painted(alloc, "session --workers=0 p s", &pairs)?;
-    let want = "Done 2 1 0 view 0 0 2000000 1000000 2 1\n2 0 start 0 1\n3 0 compose 1\n4 0 finish 1\n\
+    let want =
+        "Done 2 1 0 view 0 0 2000000 1000000 2 1\n2 0 start 0 1\n3 0 compose 1\n4 0 finish 1\n\
         5 0 save 0 1\nend 5 1\n";
     assert_eq!(rt; found.told.as_str(), want);
     let picture = found.tray.file("z.ppm").unwrap_or(b"-");
-    assert_eq!(rt; picture, b"P6\n2 1\n255\n\x10\x20\x30\x10\x20\x30".as_slice());
+    assert_eq!(rt;
+        picture,
+        b"P6\n2 1\n255\n\x10\x20\x30\x10\x20\x30".as_slice()
+    );
     Ok(())
 }
 
@@ -60,7 +65,8 @@ fn a_second_job_is_served_by_the_cache(rt: HostRuntime) -> Result<(), Fail> {
     let alloc = rt.alloc();
     let script = "start 0\nwait 0\nsave 0 a.ppm\nstart 0\nwait 0\nsave 0 b.ppm\n";
     let found = played(alloc, ALONE, script)?;
-    let rest = "9 0 save 0 1\n10 0 start 0 2\n11 0 look 2 0 hit\n12 0 look 2 1 hit\n13 0 compose 2\n\
+    let rest =
+        "9 0 save 0 1\n10 0 start 0 2\n11 0 look 2 0 hit\n12 0 look 2 1 hit\n13 0 compose 2\n\
         14 0 finish 2\n15 0 save 0 2\nend 15 2\n";
     assert_eq!(rt; found.told.as_str(), told(alloc, "Done", rest)?.as_str());
     let want = "255 255 255 255 255 100 100 255 200 78 78 200 200 200 200 200 ";
@@ -74,7 +80,8 @@ fn a_mask_is_edited_while_a_job_runs(rt: HostRuntime) -> Result<(), Fail> {
     let alloc = rt.alloc();
     let script = "start 0\nremove-feature 3 1\nwait 0\nstart 0\nwait 0\nsave 0 c.ppm\n";
     let found = played(alloc, "session two.json --workers 0 s.txt", script)?;
-    let want = "Done 5 1 0 view 0 0 8000000 1000000 4 4\n2 0 start 0 1\n3 0 edit 1 ok\n4 0 look 1 0 miss\n\
+    let want =
+        "Done 5 1 0 view 0 0 8000000 1000000 4 4\n2 0 start 0 1\n3 0 edit 1 ok\n4 0 look 1 0 miss\n\
         5 0 deliver 1 0 kept\n6 0 look 1 1 miss\n7 0 deliver 1 1 stored\n8 0 compose 1\n9 0 finish 1\n\
         10 0 start 0 2\n11 0 look 2 0 miss\n12 0 deliver 2 0 stored\n13 0 look 2 1 hit\n14 0 compose 2\n\
         15 0 finish 2\n16 0 save 0 2\nend 16 1\n";
@@ -89,7 +96,8 @@ fn a_job_is_cancelled_while_its_task_is_held(rt: HostRuntime) -> Result<(), Fail
     let alloc = rt.alloc();
     let script = "start 0\ntake\ncancel 0\ngive\nsave 0 d.ppm\ncancel 0\n";
     let found = played(alloc, ALONE, script)?;
-    let want = "Done 5 1 0 view 0 0 8000000 1000000 4 4\n2 0 start 0 1\n3 0 look 1 0 miss\n4 0 cancel 1\n\
+    let want =
+        "Done 5 1 0 view 0 0 8000000 1000000 4 4\n2 0 start 0 1\n3 0 look 1 0 miss\n4 0 cancel 1\n\
         5 0 deliver 1 0 dropped\nrefused 5 5 nothing\nrefused 6 5 ended-cancelled\nend 5 0\n";
     assert_eq!(rt; found.told.as_str(), want);
     assert!(rt; found.tray.file("d.ppm").is_none());
@@ -99,7 +107,11 @@ fn a_job_is_cancelled_while_its_task_is_held(rt: HostRuntime) -> Result<(), Fail
 #[test]
 fn what_is_ready_is_previewed(rt: HostRuntime) -> Result<(), Fail> {
     let alloc = rt.alloc();
-    let found = played(alloc, ALONE, "start 0\ntake\ngive\npreview 0 p.ppm\nwait 0\n")?;
+    let found = played(
+        alloc,
+        ALONE,
+        "start 0\ntake\ngive\npreview 0 p.ppm\nwait 0\n",
+    )?;
     let want = "Done 5 1 0 view 0 0 8000000 1000000 4 4\n2 0 start 0 1\n3 0 look 1 0 miss\n\
         4 0 deliver 1 0 stored\n5 0 preview 1 0\n6 0 look 1 1 miss\n7 0 deliver 1 1 stored\n8 0 compose 1\n\
         9 0 finish 1\nend 9 1\n";
@@ -112,10 +124,18 @@ fn what_is_ready_is_previewed(rt: HostRuntime) -> Result<(), Fail> {
 #[test]
 fn a_refused_command_doesnt_stop_a_script_and_a_bad_line_does(rt: HostRuntime) -> Result<(), Fail> {
     let alloc = rt.alloc();
-    let found = played(alloc, ALONE, "start 0\nwait 0\nopacity 9 10\nsave 0 a.ppm\n")?;
+    let found = played(
+        alloc,
+        ALONE,
+        "start 0\nwait 0\nopacity 9 10\nsave 0 a.ppm\n",
+    )?;
     let rest = "9 0 edit 1 unknown-layer\n10 0 save 0 1\nrefused 3 9 unknown-layer\nend 10 1\n";
     assert_eq!(rt; found.told.as_str(), told(alloc, "Done", rest)?.as_str());
-    let found = played(alloc, ALONE, "start 0\nwait 0\nopacity 9 10\nsave 0 a.ppm\nopacity 9\n")?;
+    let found = played(
+        alloc,
+        ALONE,
+        "start 0\nwait 0\nopacity 9 10\nsave 0 a.ppm\nopacity 9\n",
+    )?;
     assert_eq!(rt; found.told.as_str(), "BadScript(5) 5 ");
     assert!(rt; found.tray.file("a.ppm").is_none());
     let found = played(alloc, "session two.json t.txt --workers 0", "")?;
@@ -149,7 +169,8 @@ fn the_second_picture_fails(rt: HostRuntime) -> Result<(), Fail> {
     let alloc = rt.alloc();
     let script = "start 0\nwait 0\nsave 0 a.ppm\nstart 0\nwait 0\nsave 0 b.ppm\n";
     let found = broken(alloc, script)?;
-    let want = "WriteFault(Output(2)) 0 255 255 255 255 255 100 100 255 200 78 78 200 200 200 200 200 ";
+    let want =
+        "WriteFault(Output(2)) 0 255 255 255 255 255 100 100 255 200 78 78 200 200 200 200 200 ";
     assert_eq!(rt; found.as_str(), want);
     Ok(())
 }
