@@ -7,8 +7,8 @@ use Rattle.cv_model.specs.ProjectFiles.{FileParts}
 use Rattle.cv_open.specs.declared.ends.DataError.{DataError}
 use Rattle.cv_open.specs.declared.ends.End.{End}
 use Rattle.cv_open.specs.declared.ends.End.TheVariants.{Done, NoMemory, Usage, BadProject, BadData, Missing}
-use Rattle.cv_open.specs.declared.ends.End.TheVariants.{ReadFault, WriteFault}
-use Rattle.cv_open.specs.declared.ends.Which.TheVariants.{Project, Layer, Output, Text}
+use Rattle.cv_open.specs.declared.ends.End.TheVariants.{BadScript, ReadFault, WriteFault}
+use Rattle.cv_open.specs.declared.ends.Which.TheVariants.{Project, Layer, Script, Output, Text}
 use Rattle.cv_open.specs.Ends.{text_of_end, text_of_data}
 use Rattle.cv_open.specs.Opened.{project_in}
 
@@ -27,7 +27,7 @@ first_line end = text_of_end end ++ 10 ∷ []
 abbrev pub forms : List ℕ
 forms =
     codes "quick <csv> <out> <w> <h> <xmin> <ymin> <xmax> <ymax> <rrggbb>\ncheck <project>\n"
-    ++ codes "paint <project> <canvas> <out>"
+    ++ codes "paint <project> <canvas> <out>\nsession <project> <script> --workers 0"
 
 -- why bytes were refused, behind the name that was last read
 abbrev pub file_line : List ℕ → DataError → List ℕ
@@ -45,12 +45,14 @@ IsSecond Usage names old new = Appends old new (forms ++ 10 ∷ [])
 IsSecond (BadProject error) names old new = Unit {0}
 IsSecond (BadData place error) names old new =
     Appends old new (data_line names.layer.now names.read.now error)
+IsSecond (BadScript line) names old new = Appends old new (names.read.now ++ 10 ∷ [])
 IsSecond (ReadFault which) names old new = Appends old new (names.read.now ++ 10 ∷ [])
 IsSecond (Missing which) names old new = Appends old new (names.read.now ++ 10 ∷ [])
 IsSecond (WriteFault (Output k)) names old new = Appends old new (names.written.now ++ 10 ∷ [])
 IsSecond (WriteFault Text) names old new = Appends old new []
 IsSecond (WriteFault (Layer place)) names old new = Appends old new []
 IsSecond (WriteFault Project) names old new = Appends old new []
+IsSecond (WriteFault Script) names old new = Appends old new []
 IsSecond Done names old new = Appends old new []
 IsSecond NoMemory names old new = Appends old new []
 

@@ -16,7 +16,8 @@ use std::process::ExitCode;
 /// The forms of the commands, one a line.
 const FORMS: &str = "quick <csv> <out> <w> <h> <xmin> <ymin> <xmax> <ymax> <rrggbb>\n\
     check <project>\n\
-    paint <project> <canvas> <out>";
+    paint <project> <canvas> <out>\n\
+    session <project> <script> --workers 0";
 
 /// The files that a command was at when it ended.
 #[derive(Clone, Copy)]
@@ -92,6 +93,7 @@ fn second_line<W: Write>(end: &End, names: &Names<'_>, to: &mut W) -> io::Result
         End::Usage => writeln!(to, "{FORMS}"),
         End::BadProject(error) => project_line(error, read, to),
         End::BadData(_, error) => data_line(error, names, to),
+        End::BadScript(_) => writeln!(to, "{read}"),
         End::ReadFault(_) | End::Missing(_) => writeln!(to, "{read}"),
         End::WriteFault(Which::Output(_)) => writeln!(to, "{written}"),
         End::WriteFault(_) | End::Done | End::NoMemory => Ok(()),

@@ -150,7 +150,7 @@ fn told(alloc: Global, end: &End) -> Vec<u8> {
 fn words_that_are_no_form_have_the_forms(rt: HostRuntime) -> Result<(), Fail> {
     let end = end_of_words(io::ErrorKind::InvalidData);
     let want = "usage\nquick <csv> <out> <w> <h> <xmin> <ymin> <xmax> <ymax> <rrggbb>\n\
-        check <project>\npaint <project> <canvas> <out>\n";
+        check <project>\npaint <project> <canvas> <out>\nsession <project> <script> --workers 0\n";
     assert_eq!(rt; told(rt.alloc(), &end).as_slice(), want.as_bytes());
     let end = end_of_words(io::ErrorKind::OutOfMemory);
     assert_eq!(rt;
@@ -168,6 +168,13 @@ fn refused_data_has_its_file_and_its_place(rt: HostRuntime) -> Result<(), Fail> 
     let end = End::BadData(1, DataError::Grid(GridError::TooFew(3)));
     let want = "bad data in layer 1\nsq.csv: only 3 values\n";
     assert_eq!(rt; told(rt.alloc(), &end).as_slice(), want.as_bytes());
+    Ok(())
+}
+
+#[test]
+fn a_refused_script_has_its_line_and_its_file(rt: HostRuntime) -> Result<(), Fail> {
+    let want = b"bad script in line 3\nsq.csv\n".as_slice();
+    assert_eq!(rt; told(rt.alloc(), &End::BadScript(3)).as_slice(), want);
     Ok(())
 }
 

@@ -4,7 +4,7 @@ use Rattle.std.proofs.lemmas.List.{map-append, append_assoc}
 use Rattle.cv_outside.specs.Counts.{Rose}
 use Rattle.cv_outside.specs.Seen.{ShelfSeen, ShelfStands}
 use Rattle.cv_open.specs.declared.ends.End.{End}
-use Rattle.cv_open.specs.declared.ends.End.TheVariants.{Done, NoMemory, Usage, BadProject, BadData, ReadFault, WriteFault, Missing}
+use Rattle.cv_open.specs.declared.ends.End.TheVariants.{Done, NoMemory, Usage, BadProject, BadData, BadScript, ReadFault, WriteFault, Missing}
 use Rattle.cv_outside.specs.Whole.{IsUnread, UnreadAsks, UnreadCause}
 use Rattle.cv_outside.specs.declared.ends.Unread.{Unread}
 use Rattle.cv_outside.specs.declared.ends.Unread.TheVariants as unread
@@ -126,6 +126,8 @@ goes_on all mid (Err (BadProject error)) old half new stands first second =
     leads_on all mid (only (Err (BadProject error))) old half new stands first second
 goes_on all mid (Err (BadData place error)) old half new stands first second =
     leads_on all mid (only (Err (BadData place error))) old half new stands first second
+goes_on all mid (Err (BadScript line)) old half new stands first second =
+    leads_on all mid (only (Err (BadScript line))) old half new stands first second
 goes_on all mid (Err Done) old half new stands first second = absurd second
 goes_on all mid (Err Usage) old half new stands first second = absurd second
 goes_on all mid (Err (WriteFault which)) old half new stands first second = absurd second
@@ -183,6 +185,7 @@ then_ends first next (ReadFault which) old new r = (
 then_ends first next (Missing which) old new r = (then_leads first next (Err (Missing which)) old new r.0, r.1)
 then_ends first next (BadProject error) old new r = then_leads first next (Err (BadProject error)) old new r
 then_ends first next (BadData place error) old new r = then_leads first next (Err (BadData place error)) old new r
+then_ends first next (BadScript line) old new r = then_leads first next (Err (BadScript line)) old new r
 then_ends first next Done old new r = absurd r
 then_ends first next Usage old new r = absurd r
 then_ends first next (WriteFault which) old new r = absurd r

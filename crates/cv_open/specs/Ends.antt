@@ -11,7 +11,7 @@ use Rattle.cv_open.specs.declared.ends.DataError.{DataError}
 use Rattle.cv_open.specs.declared.ends.DataError.TheVariants.{Text, Grid, TooLong}
 use Rattle.cv_open.specs.declared.ends.End.{End}
 use Rattle.cv_open.specs.declared.ends.End.TheVariants.{Done, NoMemory, Usage, BadProject, BadData, Missing}
-use Rattle.cv_open.specs.declared.ends.End.TheVariants.{ReadFault, WriteFault}
+use Rattle.cv_open.specs.declared.ends.End.TheVariants.{BadScript, ReadFault, WriteFault}
 
 -- the exit status of a program that ends so
 abbrev pub status_of : End → ℕ
@@ -20,6 +20,7 @@ status_of NoMemory = 1
 status_of Usage = 2
 status_of (BadProject error) = 3
 status_of (BadData place error) = 4
+status_of (BadScript line) = 5
 status_of (ReadFault which) = 6
 status_of (WriteFault which) = 7
 status_of (Missing which) = 8
@@ -31,6 +32,7 @@ text_of_end NoMemory = codes "out of memory"
 text_of_end Usage = codes "usage"
 text_of_end (BadProject error) = codes "bad project"
 text_of_end (BadData place error) = codes "bad data in layer " ++ decimal place
+text_of_end (BadScript line) = codes "bad script in line " ++ decimal line
 text_of_end (ReadFault which) = codes "read fault"
 text_of_end (WriteFault which) = codes "write fault"
 text_of_end (Missing which) = codes "file missing"

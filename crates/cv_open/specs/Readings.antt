@@ -5,7 +5,7 @@ use Rattle.cv_outside.specs.Counts.{Rose}
 use Rattle.cv_outside.specs.Seen.{ShelfSeen}
 use Rattle.cv_open.specs.declared.ends.End.{End}
 use Rattle.cv_open.specs.declared.ends.End.TheVariants.{Done, NoMemory, Usage, BadProject, BadData, Missing}
-use Rattle.cv_open.specs.declared.ends.End.TheVariants.{ReadFault, WriteFault}
+use Rattle.cv_open.specs.declared.ends.End.TheVariants.{BadScript, ReadFault, WriteFault}
 use Rattle.cv_open.specs.declared.ends.Which.{Which}
 
 -- ---- what is asked, and what comes of it
@@ -95,6 +95,7 @@ IsReadAs all (Err (Missing which)) old new =
     LeadsTo all (only (Err (Missing which))) old new × Rose old.misses new.misses
 IsReadAs all (Err (BadProject error)) old new = LeadsTo all (only (Err (BadProject error))) old new
 IsReadAs all (Err (BadData place error)) old new = LeadsTo all (only (Err (BadData place error))) old new
+IsReadAs all (Err (BadScript line)) old new = LeadsTo all (only (Err (BadScript line))) old new
 IsReadAs all (Err Done) old new = ⊥
 IsReadAs all (Err Usage) old new = ⊥
 IsReadAs all (Err (WriteFault which)) old new = ⊥

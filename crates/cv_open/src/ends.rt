@@ -16,6 +16,8 @@ pub enum Which {
     Project,
     /// The file of the layer at this place, from 0.
     Layer(u32),
+    /// The script's file.
+    Script,
     /// The output of this number, from 1.
     Output(u32),
     /// The command's text.
@@ -46,6 +48,8 @@ pub enum End {
     BadProject(ProjectError),
     /// The bytes of the layer at this place, from 0, were refused.
     BadData(u32, DataError),
+    /// The line of the script of this number, from 1, was refused; 0 for a script of too many bytes.
+    BadScript(u32),
     /// A read failed.
     ReadFault(Which),
     /// A write failed.
@@ -65,6 +69,7 @@ impl End {
             End::Usage => 2,
             End::BadProject(_) => 3,
             End::BadData(_, _) => 4,
+            End::BadScript(_) => 5,
             End::ReadFault(_) => 6,
             End::WriteFault(_) => 7,
             End::Missing(_) => 8,
@@ -82,6 +87,7 @@ impl fmt::Display for End {
             End::Usage => write!(f, "usage"),
             End::BadProject(_) => write!(f, "bad project"),
             End::BadData(place, _) => write!(f, "bad data in layer {place}"),
+            End::BadScript(line) => write!(f, "bad script in line {line}"),
             End::ReadFault(_) => write!(f, "read fault"),
             End::WriteFault(_) => write!(f, "write fault"),
             End::Missing(_) => write!(f, "file missing"),

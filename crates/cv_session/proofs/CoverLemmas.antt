@@ -1,5 +1,5 @@
 -- Alone, caller 0 holds all that is owed for jobs without end, and so finds a task while it waits.
-use Rattle.std.proofs.Common.{◌≡◌, ◌⊎◌, inl, inr, ⊎_elim, refl, ap, sym, ◌∙◌, subst, ℕ, zero, suc, ◌==◌, Bool, true, false, ◌&&◌, ◌||◌, if◌then◌else◌}
+use Rattle.std.proofs.Common.{◌≡◌, inl, inr, ⊎_elim, refl, ap, sym, ◌∙◌, subst, ℕ, zero, suc, ◌==◌, Bool, true, false, ◌&&◌, ◌||◌, if◌then◌else◌}
 use Rattle.std.proofs.Common.{List, [], ◌∷◌, ◌++◌, map, length, drop, slice_get, Option, Some, None, is_some, is_none, option_map, option_and_then, arith, IsSomeAnd}
 use Rattle.std.specs.List.{list_any}
 use Rattle.std.specs.Option.{option_or}
@@ -34,16 +34,12 @@ use Rattle.cv_session.specs.Plays.{Awaited, Mode, Opens, Begins, GivesOne, Gives
 use Rattle.cv_session.specs.Plays.{claims_next, is_of_held, fails_work, fails_in, entered, through, next_in, next, Plays, stops, quiet, own, failed, other}
 use Rattle.cv_session.specs.Entered.{MayDo}
 use Rattle.cv_session.specs.HeldLaws.{AloneFindsTasks}
+use Rattle.cv_session.specs.Covered.{Has, CoversSlot, CoversComposer, CoversJob, Covers}
 use Rattle.cv_session.proofs.EnteredLemmas.{act_may, done_may, work_may}
 use Rattle.cv_session.proofs.PlayLemmas.{Silently, turns, refuses, begins, lets, ends as finishes, ends_badly, silently, same_some}
 use Rattle.cv_session.proofs.ScriptLemmas.{first_of}
 use Rattle.cv_session.proofs.WriteLemmas.{state_silent, state_next}
 use Rattle.cv_session.proofs.HeldLemmas.{is_delivery, claim_no_delivery, act_no_delivery}
-
--- a task is in a list
-abbrev pub Has : Task → List Task → Type 0
-Has t [] = ⊥
-Has t (u ∷ us) = (u ≡ t) ⊎ Has t us
 
 has_more : (t : Task) (xs ys : List Task) → Has t xs → Has t (xs ++ ys)
 has_more t [] ys h = absurd h
@@ -52,25 +48,6 @@ has_more t (x ∷ xs) ys h = ⊎_elim (λ e. inl e) (λ r. inr (has_more t xs ys
 has_last : (t u : Task) (xs : List Task) → u ≡ t → Has t (xs ++ u ∷ [])
 has_last t u [] e = inl e
 has_last t u (x ∷ xs) e = inr (has_last t u xs e)
-
--- what is held covers a slot, and a composition, of a job without end
-abbrev pub CoversSlot : List Task → ℕ → ℕ → Standing → Type 0
-CoversSlot ts j at Open = Unit {0}
-CoversSlot ts j at (Missed who) = Has (Look j at) ts
-CoversSlot ts j at Ready = Unit {0}
-CoversSlot ts j at Lost = ⊥
-
-abbrev pub CoversComposer : List Task → ℕ → Option ℕ → Type 0
-CoversComposer ts j None = Unit {0}
-CoversComposer ts j (Some who) = Has (Compose j) ts
-
-pub record CoversJob (ts : List Task) (j : ℕ) (job : Job) : Type 0 where
-  pub slots : (at : ℕ) (slot : Slot) → slice_get job.slots at ≡ Some slot → CoversSlot ts j at slot.standing
-  pub composer : CoversComposer ts j job.composer
-
--- so it is of all jobs without end
-abbrev pub Covers : State → List Task → Type 0
-Covers s ts = (j : ℕ) (job : Job) → job_in s.jobs j ≡ Some job → job.ended ≡ None → CoversJob ts j job
 
 -- ---- a job behind an act was there, or is new
 
@@ -227,7 +204,7 @@ composer_covers (act.Cancel k) ts j job h = composer_same ts _ j job.composer _ 
 composer_covers (act.Preview k bits) ts j job h = composer_grows ts _ j job.composer h
 composer_covers (act.Save c k) ts j job h = composer_grows ts _ j job.composer h
 
-covers_more : (s : State) (a : Act) (ts : List Task) → Allows s 0 a → is_delivery a ≡ false → Covers s ts → Covers (did s 0 a) (ts ++ held_by a)
+pub covers_more : (s : State) (a : Act) (ts : List Task) → Allows s 0 a → is_delivery a ≡ false → Covers s ts → Covers (did s 0 a) (ts ++ held_by a)
 covers_more s a ts allowed n f =
     each_job s a (CoversJob (ts ++ held_by a)) allowed
     (λ j job is live.
@@ -241,7 +218,7 @@ covers_more s a ts allowed n f =
 
 -- ---- tasks of ended jobs needn't be held
 
-abbrev IsOver : State → ℕ → Type 0
+abbrev pub IsOver : State → ℕ → Type 0
 IsOver s j = (job : Job) → job_in s.jobs j ≡ Some job → job.ended ≡ None → ⊥
 
 drop_slot : (t : Task) (ts : List Task) (j at : ℕ) (x : Standing) → (t ≡ Look j at → ⊥) → CoversSlot (t ∷ ts) j at x → CoversSlot ts j at x
@@ -254,7 +231,7 @@ drop_composer : (t : Task) (ts : List Task) (j : ℕ) (o : Option ℕ) → (t �
 drop_composer t ts j None f h = tt
 drop_composer t ts j (Some who) f h = ⊎_elim (λ e. absurd (f e)) (λ r. r) h
 
-covers_drop : (s : State) (t : Task) (ts : List Task) → IsOver s (job_of_task t) → Covers s (t ∷ ts) → Covers s ts
+pub covers_drop : (s : State) (t : Task) (ts : List Task) → IsOver s (job_of_task t) → Covers s (t ∷ ts) → Covers s ts
 covers_drop s t ts over f = λ j job is live. record {
   slots = λ at slot e. drop_slot t ts j at slot.standing (λ g. over job (ap (job_in s.jobs) (ap job_of_task g) ∙ is) live) ((f j job is live).slots at slot e);
   composer = drop_composer t ts j job.composer (λ g. over job (ap (job_in s.jobs) (ap job_of_task g) ∙ is) live) (f j job is live).composer;
@@ -269,7 +246,7 @@ over_act s k a job allowed is h = λ after_it there live.
     none_is None e h = false≢true h
     none_is (Some x) e h = absurd cc
 
-over_how : (s : State) (j : ℕ) → is_some (how s j) ≡ true → IsOver s j
+pub over_how : (s : State) (j : ℕ) → is_some (how s j) ≡ true → IsOver s j
 over_how s j h = λ job is live. false≢true (sym (ap (λ (o : Option Job). is_some (option_and_then (λ (job : Job). job.ended) o)) is ∙ ap is_some live) ∙ h)
 
 same_job : (k : ℕ) (h : How) → is_some (if k == k then Some h else None) ≡ true
@@ -282,14 +259,14 @@ same_job k h = by_test (k == k) (itself k)
     by_test true e = refl
     by_test false e = absurd (false≢true e)
 
-over_failed : (s : State) (k : ℕ) → Allows s 0 (act.Fail k) → IsOver (did s 0 (act.Fail k)) k
+pub over_failed : (s : State) (k : ℕ) → Allows s 0 (act.Fail k) → IsOver (did s 0 (act.Fail k)) k
 over_failed s k allowed = by_job (job_in s.jobs k) refl allowed
   where
     by_job : (o : Option Job) → job_in s.jobs k ≡ o → IsSomeAnd o (λ job. job.ended ≡ None) → IsOver (did s 0 (act.Fail k)) k
     by_job None e h = absurd h
     by_job (Some job) e h = over_act s k (act.Fail k) job allowed e (same_job k NoMemory)
 
-over_finished : (s : State) (k : ℕ) → Allows s 0 (act.Finish k) → IsOver (did s 0 (act.Finish k)) k
+pub over_finished : (s : State) (k : ℕ) → Allows s 0 (act.Finish k) → IsOver (did s 0 (act.Finish k)) k
 over_finished s k allowed = by_job (job_in s.jobs k) refl allowed
   where
     by_job : (o : Option Job) → job_in s.jobs k ≡ o → IsSomeAnd o (λ job. (job.composer ≡ Some 0) × (job.ended ≡ None)) → IsOver (did s 0 (act.Finish k)) k
@@ -324,7 +301,7 @@ not_dropped s job slot live h = by_canvas (on_canvas is_taken s job slot) (sym (
     by_canvas true h = absurd cc
     by_canvas false h = absurd cc
 
-covers_delivered : (s : State) (k i : ℕ) (fate : Fate) (ts : List Task) → Allows s 0 (act.Deliver k i fate) → Covers s (Look k i ∷ ts)
+pub covers_delivered : (s : State) (k i : ℕ) (fate : Fate) (ts : List Task) → Allows s 0 (act.Deliver k i fate) → Covers s (Look k i ∷ ts)
     → Covers (did s 0 (act.Deliver k i fate)) ts
 covers_delivered s k i fate ts allowed f =
     each_job s (act.Deliver k i fate) (CoversJob ts) allowed
@@ -349,7 +326,7 @@ covers_delivered s k i fate ts allowed f =
 
 -- ---- plays
 
-covers_done : (s : State) (t : Task) (ts : List Task) (d : Act) → Allows s 0 d → MayDo t d → Covers s (t ∷ ts) → Covers (did s 0 d) (ts ++ held_by d)
+pub covers_done : (s : State) (t : Task) (ts : List Task) (d : Act) → Allows s 0 d → MayDo t d → Covers s (t ∷ ts) → Covers (did s 0 d) (ts ++ held_by d)
 covers_done s (Look j at) ts d allowed m f =
     subst (λ (d : Act). Covers (did s 0 d) (ts ++ held_by d)) (sym m.1)
     (subst (Covers (did s 0 (act.Deliver j at m.0))) (sym (append-nil ts)) (covers_delivered s j at m.0 ts (subst (Allows s 0) m.1 allowed) f))
@@ -396,7 +373,7 @@ covers_claim_failed : (cs : List Numbered) (a : Play) (j : ℕ) → claims_next 
 covers_claim_failed [] a j e allowed f = absurd (false≢true e)
 covers_claim_failed (n ∷ rest) a j e allowed f = covers_more a.state (act.Fail j) a.held allowed refl f
 
-covers_task_failed : (ts : List Task) (s : State) (j : ℕ) → is_of_held ts j ≡ true → Allows s 0 (act.Fail j) → Covers s ts
+pub covers_task_failed : (ts : List Task) (s : State) (j : ℕ) → is_of_held ts j ≡ true → Allows s 0 (act.Fail j) → Covers s ts
     → Covers (did s 0 (act.Fail j)) (drop 1 ts ++ [])
 covers_task_failed [] s j e allowed f = absurd (false≢true e)
 covers_task_failed (t ∷ ts) s j e allowed f =
@@ -483,7 +460,7 @@ free : (j : ℕ) (o : Option ℕ) → CoversComposer [] j o → is_none o ≡ tr
 free j None h = refl
 free j (Some who) h = absurd h
 
-has_one : (job : Job) (j : ℕ) → job.ended ≡ None → CoversJob [] j job → has_task job ≡ true
+pub has_one : (job : Job) (j : ℕ) → job.ended ≡ None → CoversJob [] j job → has_task job ≡ true
 has_one job j live c =
     both (is_none job.ended) _ (ap is_none live) (by_open (list_any (λ (slot : Slot). is_open slot.standing) job.slots) refl)
   where
@@ -504,7 +481,7 @@ any_at (x ∷ xs) (suc m) job e h = ap (λ (b : Bool). has_task x || b) (any_at 
     or_true true = refl
     or_true false = refl
 
-any_in : (jobs : List Job) (j : ℕ) (job : Job) → job_in jobs j ≡ Some job → has_task job ≡ true → list_any has_task jobs ≡ true
+pub any_in : (jobs : List Job) (j : ℕ) (job : Job) → job_in jobs j ≡ Some job → has_task job ≡ true → list_any has_task jobs ≡ true
 any_in jobs zero job e h = absurd cc
 any_in jobs (suc m) job e h = any_at jobs m job e h
 

@@ -14,7 +14,6 @@ use Rattle.cv_event.specs.declared.entry.Act.{Act}
 use Rattle.cv_event.specs.declared.entry.Act.TheVariants as act
 use Rattle.cv_event.specs.declared.entry.Fate.{Fate}
 use Rattle.cv_event.specs.declared.entry.How.{How}
-use Rattle.cv_event.specs.declared.entry.How.TheVariants as how_of
 use Rattle.cv_event.specs.declared.refused.Reason.TheVariants as reason
 use Rattle.cv_event.specs.declared.slot.Slot.{Slot}
 use Rattle.cv_event.specs.declared.slot.Standing.TheVariants.{Missed}
@@ -161,7 +160,7 @@ save_planned s c j held file h =
     of_taken (Some t) h = ap (λ (n : ℕ). Some (act.Save c n)) h
 
 -- the command's own act, where it is allowed
-act_planned : (s : State) (held : ℕ) (c : Command) (d : Act) → MayAct s held c d → Allows s 0 d → act_of (response s held c) ≡ Some d
+pub act_planned : (s : State) (held : ℕ) (c : Command) (d : Act) → MayAct s held c d → Allows s 0 d → act_of (response s held c) ≡ Some d
 act_planned s held (command.Edit e) d m h =
     let is : m.0 ≡ verdict s.project s.accepted e = subst (Allows s 0) m.1 h in
     ap (λ (v : Option EditError). Some (act.Edit e v)) (sym is) ∙ ap Some (sym m.1)
@@ -283,9 +282,7 @@ view_may c (Err view_error.Range) d h = absurd cc
 
 unless_may : (o : Option How) (e d : Act) → act_of (unless_ended o e) ≡ Some d → d ≡ e
 unless_may None e d h = sym (same_some h)
-unless_may (Some how_of.Finished) e d h = absurd cc
-unless_may (Some how_of.Cancelled) e d h = absurd cc
-unless_may (Some how_of.NoMemory) e d h = absurd cc
+unless_may (Some x) e d h = absurd cc
 
 pub act_may : (s : State) (held : ℕ) (c : Command) (d : Act) → act_of (response s held c) ≡ Some d → MayAct s held c d
 act_may s held (command.Edit e) d h = (verdict s.project s.accepted e, sym (same_some h))

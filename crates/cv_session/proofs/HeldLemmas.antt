@@ -30,7 +30,7 @@ use Rattle.cv_session.specs.Responses.{last_job, held_by}
 use Rattle.cv_session.specs.Plays.{Awaited, Mode, Opens, Begins, GivesOne, GivesAll, Works, Closes, Play, planned_next, planned_held, planned_work, planned_in}
 use Rattle.cv_session.specs.Plays.{claims_next, fails_in, entered, through, next_in, next, Plays, stops, quiet, own, failed, other}
 use Rattle.cv_session.specs.Entered.{IsClaim, IsViewed, MayDo, MayAct}
-use Rattle.cv_session.specs.HeldLaws.{Owes, AreApart, HeldTasksAreOwed}
+use Rattle.cv_session.specs.HeldLaws.{Owes, AreApart, HoldsTasks, HeldTasksAreOwed}
 use Rattle.cv_session.proofs.EnteredLemmas.{act_may, done_may, work_may}
 use Rattle.cv_session.proofs.WriteLemmas.{state_silent, state_next}
 use Rattle.cv_session.proofs.PlayLemmas.{Silently, turns, refuses, begins, lets, ends, ends_badly, silently, same_some}
@@ -135,10 +135,6 @@ still_owed s who a (Look j at) allowed undone h = by_job (job_in s.jobs j) refl 
     by_job (Some job) e h = by_slot job (slice_get job.slots at) e refl h
 
 -- ---- lists of tasks
-
-pub record Holds (s : State) (ts : List Task) : Type 0 where
-  pub owed : AllByRecursion (Owes s 0) ts
-  pub apart : AreApart ts
 
 all_still : (s : State) (who : ℕ) (a : Act) (ts : List Task) → Allows s who a → AllByRecursion (Undone who a) ts → AllByRecursion (Owes s 0) ts
     → AllByRecursion (Owes (did s who a) 0) ts
@@ -264,17 +260,17 @@ not_composed s j t due h e = clash (job_in s.jobs j) (subst (Owes s 0) e h) (com
     clash (Some job) f g = some_none job.composer f g.2
 
 -- behind an act that does no task, with what it makes held
-held_more : (s : State) (a : Act) (ts : List Task) → Allows s 0 a → is_delivery a ≡ false → Holds s ts → Holds (did s 0 a) (ts ++ held_by a)
+pub held_more : (s : State) (a : Act) (ts : List Task) → Allows s 0 a → is_delivery a ≡ false → HoldsTasks s ts → HoldsTasks (did s 0 a) (ts ++ held_by a)
 held_more s a ts allowed no_delivery h = by_act a allowed no_delivery
   where
     stay : (a : Act) → Allows s 0 a → is_delivery a ≡ false → AllByRecursion (Owes (did s 0 a) 0) ts
     stay a allowed no_delivery = all_still s 0 a ts allowed (all_tasks (Undone 0 a) ts (λ t. undone_by 0 a t no_delivery)) h.owed
 
-    none : (a : Act) → Allows s 0 a → is_delivery a ≡ false → held_by a ≡ [] → Holds (did s 0 a) (ts ++ held_by a)
+    none : (a : Act) → Allows s 0 a → is_delivery a ≡ false → held_by a ≡ [] → HoldsTasks (did s 0 a) (ts ++ held_by a)
     none a allowed no_delivery e =
-        subst (λ (us : List Task). Holds (did s 0 a) (ts ++ us)) (sym e) (subst (Holds (did s 0 a)) (sym (append-nil ts)) (record { owed = stay a allowed no_delivery; apart = h.apart }))
+        subst (λ (us : List Task). HoldsTasks (did s 0 a) (ts ++ us)) (sym e) (subst (HoldsTasks (did s 0 a)) (sym (append-nil ts)) (record { owed = stay a allowed no_delivery; apart = h.apart }))
 
-    by_act : (a : Act) → Allows s 0 a → is_delivery a ≡ false → Holds (did s 0 a) (ts ++ held_by a)
+    by_act : (a : Act) → Allows s 0 a → is_delivery a ≡ false → HoldsTasks (did s 0 a) (ts ++ held_by a)
     by_act (act.Look j at false) allowed no_delivery = record {
       owed = all_behind (Owes (did s 0 (act.Look j at false)) 0) ts (Look j at ∷ []) (stay (act.Look j at false) allowed no_delivery) (new_slot_owed s j at allowed, tt);
       apart = apart_more ts (Look j at) h.apart (all_from (Owes s 0) (λ t. t ≡ Look j at → ⊥) ts (λ t f. not_open s j at t allowed.0 f) h.owed);
@@ -295,11 +291,11 @@ held_more s a ts allowed no_delivery h = by_act a allowed no_delivery
     by_act (act.Save c j) allowed no_delivery = none (act.Save c j) allowed no_delivery refl
 
 -- behind the entry of the task that is held longest
-held_done : (s : State) (t : Task) (ts : List Task) (a : Act) → Allows s 0 a → MayDo t a → Holds s (t ∷ ts) → Holds (did s 0 a) (ts ++ held_by a)
+pub held_done : (s : State) (t : Task) (ts : List Task) (a : Act) → Allows s 0 a → MayDo t a → HoldsTasks s (t ∷ ts) → HoldsTasks (did s 0 a) (ts ++ held_by a)
 held_done s (Look j at) ts a allowed m h =
     let e = m.1 in
-    subst (λ (a : Act). Holds (did s 0 a) (ts ++ held_by a)) (sym e)
-    (subst (Holds (did s 0 (act.Deliver j at m.0))) (sym (append-nil ts)) (record {
+    subst (λ (a : Act). HoldsTasks (did s 0 a) (ts ++ held_by a)) (sym e)
+    (subst (HoldsTasks (did s 0 (act.Deliver j at m.0))) (sym (append-nil ts)) (record {
       owed = all_still s 0 (act.Deliver j at m.0) ts (subst (Allows s 0) e allowed)
           (all_from (λ u. u ≡ Look j at → ⊥) (Undone 0 (act.Deliver j at m.0)) ts (λ u f. differ u f) h.apart.0) h.owed.1;
       apart = h.apart.1;
@@ -309,8 +305,8 @@ held_done s (Look j at) ts a allowed m h =
     differ (Look k i) f = λ x y z. f (λ p. Look (sym y p) (sym z p))
     differ (Compose k) f = tt
 held_done s (Compose j) ts a allowed m h =
-    subst (λ (a : Act). Holds (did s 0 a) (ts ++ held_by a)) (sym m)
-    (subst (Holds (did s 0 (act.Finish j))) (sym (append-nil ts)) (record {
+    subst (λ (a : Act). HoldsTasks (did s 0 a) (ts ++ held_by a)) (sym m)
+    (subst (HoldsTasks (did s 0 (act.Finish j))) (sym (append-nil ts)) (record {
       owed = all_still s 0 (act.Finish j) ts (subst (Allows s 0) m allowed) (all_tasks (Undone 0 (act.Finish j)) ts (λ t. tt)) h.owed.1;
       apart = h.apart.1;
     }))
@@ -353,31 +349,31 @@ act_no_delivery s held (command.Wait c) d m = absurd m
 act_no_delivery s held command.Give d m = absurd m
 
 holds_open : (c : ℕ) (views : List (Option PixelGrid)) (a : Play) (d : Act) → planned_in (Opens c views) a ≡ Some d → Allows a.state 0 d
-    → Holds a.state a.held → Holds (did a.state 0 d) a.held
+    → HoldsTasks a.state a.held → HoldsTasks (did a.state 0 d) a.held
 holds_open c [] a d e allowed h = absurd cc
 holds_open c (None ∷ views) a d e allowed h = absurd cc
 holds_open c (Some view ∷ views) a d e allowed h =
-    subst (λ (d : Act). Holds (did a.state 0 d) a.held) (same_some e)
-    (subst (Holds (did a.state 0 (act.View c view))) (append-nil a.held) (held_more a.state (act.View c view) a.held (subst (Allows a.state 0) (sym (same_some e)) allowed) refl h))
+    subst (λ (d : Act). HoldsTasks (did a.state 0 d) a.held) (same_some e)
+    (subst (HoldsTasks (did a.state 0 (act.View c view))) (append-nil a.held) (held_more a.state (act.View c view) a.held (subst (Allows a.state 0) (sym (same_some e)) allowed) refl h))
 
-holds_begin : (cs : List Numbered) (a : Play) (d : Act) → planned_next cs a ≡ Some d → Allows a.state 0 d → Holds a.state a.held
-    → Holds (did a.state 0 d) (through cs d (entered d a)).held
+holds_begin : (cs : List Numbered) (a : Play) (d : Act) → planned_next cs a ≡ Some d → Allows a.state 0 d → HoldsTasks a.state a.held
+    → HoldsTasks (did a.state 0 d) (through cs d (entered d a)).held
 holds_begin [] a d e allowed h = absurd cc
 holds_begin (n ∷ rest) a d e allowed h =
     held_more a.state d a.held allowed (act_no_delivery a.state (length a.held) n.command d (act_may a.state (length a.held) n.command d e)) h
 
-holds_give : (ts : List Task) (a : Play) (d : Act) → planned_held ts a ≡ Some d → Allows a.state 0 d → Holds a.state ts
-    → Holds (did a.state 0 d) (drop 1 ts ++ held_by d)
+holds_give : (ts : List Task) (a : Play) (d : Act) → planned_held ts a ≡ Some d → Allows a.state 0 d → HoldsTasks a.state ts
+    → HoldsTasks (did a.state 0 d) (drop 1 ts ++ held_by d)
 holds_give [] a d e allowed h = absurd cc
 holds_give (t ∷ ts) a d e allowed h = held_done a.state t ts d allowed (done_may a.state t d e) h
 
-holds_work : (w : Awaited) (ts : List Task) (a : Play) (d : Act) → planned_work w ts a ≡ Some d → Allows a.state 0 d → Holds a.state ts
-    → Holds (did a.state 0 d) (drop 1 ts ++ held_by d)
+holds_work : (w : Awaited) (ts : List Task) (a : Play) (d : Act) → planned_work w ts a ≡ Some d → Allows a.state 0 d → HoldsTasks a.state ts
+    → HoldsTasks (did a.state 0 d) (drop 1 ts ++ held_by d)
 holds_work w [] a d e allowed h = held_more a.state d [] allowed (claim_no_delivery d (work_may w [] a d e).1) h
 holds_work w (t ∷ ts) a d e allowed h = held_done a.state t ts d allowed (done_may a.state t d e) h
 
-holds_next : (m : Mode) (a : Play) (d : Act) → planned_in m a ≡ Some d → Allows a.state 0 d → Holds a.state a.held
-    → Holds (did a.state 0 d) (next_in m d (entered d a)).held
+holds_next : (m : Mode) (a : Play) (d : Act) → planned_in m a ≡ Some d → Allows a.state 0 d → HoldsTasks a.state a.held
+    → HoldsTasks (did a.state 0 d) (next_in m d (entered d a)).held
 holds_next (Opens c views) a d e allowed h = holds_open c views a d e allowed h
 holds_next Begins a d e allowed h = holds_begin a.commands a d e allowed h
 holds_next GivesOne a d e allowed h = holds_give a.held a d e allowed h
@@ -385,17 +381,17 @@ holds_next (GivesAll w) a d e allowed h = holds_give a.held a d e allowed h
 holds_next (Works w) a d e allowed h = holds_work w a.held a d e allowed h
 holds_next Closes a d e allowed h = holds_give a.held a d e allowed h
 
-holds_rest : (s : State) (ts : List Task) → Holds s ts → Holds s (drop 1 ts)
+holds_rest : (s : State) (ts : List Task) → HoldsTasks s ts → HoldsTasks s (drop 1 ts)
 holds_rest s [] h = h
 holds_rest s (t ∷ ts) h = record { owed = h.owed.1; apart = h.apart.1 }
 
-holds_claim_failed : (cs : List Numbered) (a : Play) (j : ℕ) → claims_next (length a.held) cs ≡ true → Allows a.state 0 (act.Fail j) → Holds a.state a.held
-    → Holds (did a.state 0 (act.Fail j)) (through cs (act.Fail j) (entered (act.Fail j) a)).held
+holds_claim_failed : (cs : List Numbered) (a : Play) (j : ℕ) → claims_next (length a.held) cs ≡ true → Allows a.state 0 (act.Fail j) → HoldsTasks a.state a.held
+    → HoldsTasks (did a.state 0 (act.Fail j)) (through cs (act.Fail j) (entered (act.Fail j) a)).held
 holds_claim_failed [] a j e allowed h = absurd (false≢true e)
 holds_claim_failed (n ∷ rest) a j e allowed h = held_more a.state (act.Fail j) a.held allowed refl h
 
-holds_failed : (m : Mode) (a : Play) (j : ℕ) → fails_in m a j ≡ true → Allows a.state 0 (act.Fail j) → Holds a.state a.held
-    → Holds (did a.state 0 (act.Fail j)) (next_in m (act.Fail j) (entered (act.Fail j) a)).held
+holds_failed : (m : Mode) (a : Play) (j : ℕ) → fails_in m a j ≡ true → Allows a.state 0 (act.Fail j) → HoldsTasks a.state a.held
+    → HoldsTasks (did a.state 0 (act.Fail j)) (next_in m (act.Fail j) (entered (act.Fail j) a)).held
 holds_failed (Opens c views) a j e allowed h = absurd (false≢true e)
 holds_failed Begins a j e allowed h = holds_claim_failed a.commands a j (first_of _ _ e) allowed h
 holds_failed GivesOne a j e allowed h = held_more a.state (act.Fail j) (drop 1 a.held) allowed refl (holds_rest a.state a.held h)
@@ -403,10 +399,10 @@ holds_failed (GivesAll w) a j e allowed h = held_more a.state (act.Fail j) (drop
 holds_failed (Works w) a j e allowed h = held_more a.state (act.Fail j) (drop 1 a.held) allowed refl (holds_rest a.state a.held h)
 holds_failed Closes a j e allowed h = held_more a.state (act.Fail j) (drop 1 a.held) allowed refl (holds_rest a.state a.held h)
 
-holds_tail : (s : State) (us ts : List Task) (t : Task) → us ≡ t ∷ ts → Holds s us → Holds s ts
-holds_tail s us ts t e h = holds_rest s (t ∷ ts) (subst (Holds s) e h)
+holds_tail : (s : State) (us ts : List Task) (t : Task) → us ≡ t ∷ ts → HoldsTasks s us → HoldsTasks s ts
+holds_tail s us ts t e h = holds_rest s (t ∷ ts) (subst (HoldsTasks s) e h)
 
-holds_silent : {a b : Play} → Silently a b → Holds a.state a.held → Holds b.state b.held
+holds_silent : {a b : Play} → Silently a b → HoldsTasks a.state a.held → HoldsTasks b.state b.held
 holds_silent (turns m x) h = h
 holds_silent (refuses n rest why c e) h = h
 holds_silent (begins n rest m c e f x) h = h
@@ -414,7 +410,7 @@ holds_silent {a} (lets m t ts e x g) h = holds_tail a.state a.held ts t e h
 holds_silent (ends w m e g) h = h
 holds_silent (ends_badly w m e g) h = h
 
-pub holds_played : {n : ℕ} {a c : Play} {es : List Entry} → Plays n a es c → LegalFrom a.state es → Holds a.state a.held → Holds c.state c.held
+pub holds_played : {n : ℕ} {a c : Play} {es : List Entry} → Plays n a es c → LegalFrom a.state es → HoldsTasks a.state a.held → HoldsTasks c.state c.held
 holds_played (stops a) legal h = h
 holds_played (quiet a b c es e rest) legal h =
     let kind = silently a b e in
@@ -422,11 +418,11 @@ holds_played (quiet a b c es e rest) legal h =
 holds_played (own a c d es e rest) legal h =
     let same : (next d a).state ≡ did a.state 0 d = state_next a.mode d (entered d a) in
     holds_played rest (subst (λ (s : State). LegalFrom s es) (sym same) legal.1)
-    (subst (λ (s : State). Holds s (next d a).held) (sym same) (holds_next a.mode a d e legal.0 h))
+    (subst (λ (s : State). HoldsTasks s (next d a).held) (sym same) (holds_next a.mode a d e legal.0 h))
 holds_played (failed a c j es e rest) legal h =
     let same : (next (act.Fail j) a).state ≡ did a.state 0 (act.Fail j) = state_next a.mode (act.Fail j) (entered (act.Fail j) a) in
     holds_played rest (subst (λ (s : State). LegalFrom s es) (sym same) legal.1)
-    (subst (λ (s : State). Holds s (next (act.Fail j) a).held) (sym same) (holds_failed a.mode a j e legal.0 h))
+    (subst (λ (s : State). HoldsTasks s (next (act.Fail j) a).held) (sym same) (holds_failed a.mode a j e legal.0 h))
 holds_played (other a c e es low high is rest) legal h =
     holds_played rest legal.1
     (record {
@@ -436,5 +432,4 @@ holds_played (other a c e es low high is rest) legal h =
 
 pub held_tasks_are_owed : HeldTasksAreOwed
 held_tasks_are_owed o views script workers journal last legal p =
-    let h = holds_played p legal (record { owed = tt; apart = tt }) in
-    (h.owed, h.apart)
+    holds_played p legal (record { owed = tt; apart = tt })

@@ -1,4 +1,5 @@
 -- Lemmas on plays.
+pub mod PlayableLemmas
 pub mod PlayLemmas
 pub mod OneLemmas
 pub mod ScriptLemmas
@@ -8,4 +9,13 @@ pub mod WorkedPlays
 pub mod WriteLemmas
 pub mod HeldLemmas
 pub mod CoverLemmas
+pub mod SeatLemmas
+pub mod MoveLemmas
+pub mod ObeyLemmas
+pub mod TaskLemmas
+pub mod ServeLemmas
+pub mod WaitLemmas
+pub mod ViewLemmas
+pub mod OutputLemmas
+pub mod RunLemmas
 pub mod WorkedOthers

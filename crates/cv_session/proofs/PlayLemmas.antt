@@ -65,9 +65,7 @@ later_or f (Some x) r g h l = g x l
 
 later_unless : (o : Option How) (d : Act) → IsLater (unless_ended o d) → ⊥
 later_unless None d l = l
-later_unless (Some how_of.Finished) d l = l
-later_unless (Some how_of.Cancelled) d l = l
-later_unless (Some how_of.NoMemory) d l = l
+later_unless (Some h) d l = l
 
 -- such a command writes no file
 no_file_later : (s : State) (held : ℕ) (c : Command) → IsLater (response s held c) → file_of c ≡ None

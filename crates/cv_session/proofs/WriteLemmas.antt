@@ -31,7 +31,8 @@ use Rattle.cv_event.proofs.ShownLemmas.{published_is_last_finished}
 use Rattle.cv_script.specs.declared.script.Command.{Command}
 use Rattle.cv_script.specs.declared.script.Command.TheVariants as command
 use Rattle.cv_script.specs.declared.script.Numbered.{Numbered}
-use Rattle.cv_script.specs.Scripts.{AscendFrom}
+use Rattle.cv_session.specs.Playable.{Ascends, IsPlayable}
+use Rattle.cv_session.specs.Follows.{at_first}
 use Rattle.cv_session.specs.Responses.{last_from, last_job, edit_reason}
 use Rattle.cv_session.specs.Plays.{Written, Mode, Opens, Begins, GivesOne, GivesAll, Works, Closes, Play, entered, refusals, picture_by, file_of, file_with, written_by, through, next_in, next, entry_by}
 use Rattle.cv_session.specs.Plays.{Plays, stops, quiet, own, failed, other}
@@ -95,7 +96,7 @@ last_there k c j (job ∷ jobs) h = by_rest (last_from (suc k) c jobs) refl (las
     by_rest None e rec h = by_test (job.canvas == c) h
     by_rest (Some i) e rec h = later (rec (e ∙ h))
 
-last_is_there : (s : State) (c j : ℕ) → last_job s c ≡ Some j → IsThere s j
+pub last_is_there : (s : State) (c j : ℕ) → last_job s c ≡ Some j → IsThere s j
 last_is_there s c j h =
     let r = last_there 1 c j s.jobs h in
     let n : j ≡ suc r.0 = r.1 ∙ omega arith in
@@ -346,7 +347,7 @@ avoids_played (other a c e es low_caller high is r) l low f = avoids_played r l 
 -- the commands that are left stand in lines from this one on, and what was refused or begun in lines before it
 pub record Lines (k : ℕ) (a : Play) : Type 0 where
   pub positive : 1 ≤ k
-  pub commands : AscendFrom k a.commands
+  pub commands : Ascends k a.commands
   pub refused : AllByRecursion (λ (r : Refused). r.line < k) a.refused
   pub mode : line_of a.mode < k
 
@@ -359,10 +360,10 @@ below_later : (k m : ℕ) (xs : List Refused) → k ≤ m → AllByRecursion (λ
 below_later k m [] l f = tt
 below_later k m (x ∷ xs) l f = (omega (arith, l, f.0), below_later k m xs l f.1)
 
-first_line : (k : ℕ) (n : Numbered) (cs rest : List Numbered) → cs ≡ n ∷ rest → AscendFrom k cs → (k ≤ n.line) × AscendFrom (n.line + 1) rest
+first_line : (k : ℕ) (n : Numbered) (cs rest : List Numbered) → cs ≡ n ∷ rest → Ascends k cs → (k ≤ n.line) × Ascends (n.line + 1) rest
 first_line k n cs rest e f =
-    let g = subst (AscendFrom k) e f in
-    (g.0, g.2)
+    let g = subst (Ascends k) e f in
+    (g.0, g.1)
 
 low_line : (x y k : ℕ) → IsLineOf x y → 1 ≤ k → y < k → x < k
 low_line x y k o p h = ⊎_elim (λ e. omega (arith, e, p)) (λ e. omega (arith, e, h)) o
@@ -422,7 +423,7 @@ lines_silent {a} (ends_badly w m e g) k f = (
 lines_same : (a b : Play) (k : ℕ) → IsSame a b → Lines k a → Lines k b
 lines_same a b k s f = record {
   positive = f.positive;
-  commands = subst (AscendFrom k) (sym s.commands) f.commands;
+  commands = subst (Ascends k) (sym s.commands) f.commands;
   refused = subst (AllByRecursion (λ (r : Refused). r.line < k)) (sym s.refused) f.refused;
   mode = low_line _ _ k s.line f.positive f.mode;
 }
@@ -451,10 +452,10 @@ none_below : (k l : ℕ) (xs : List Refused) → k ≤ l → AllByRecursion (λ 
 none_below k l [] h f = refl
 none_below k l (x ∷ xs) h f = ap (λ (b : Bool). b || is_refused xs l) (other_line x.line l (λ e. absurd (omega (arith, e, h, f.0)))) ∙ none_below k l xs h f.1
 
-others_behind : (k l : ℕ) (cs : List Numbered) → l < k → AscendFrom k cs → AllByRecursion (IsOther l) cs
+others_behind : (k l : ℕ) (cs : List Numbered) → l < k → Ascends k cs → AllByRecursion (IsOther l) cs
 others_behind k l [] h f = tt
 others_behind k l (c ∷ cs) h f =
-    (other_line c.line l (λ e. absurd (omega (arith, e, h, f.0))), others_behind (c.line + 1) l cs (omega (arith, h, f.0)) f.2)
+    (other_line c.line l (λ e. absurd (omega (arith, e, h, f.0))), others_behind (c.line + 1) l cs (omega (arith, h, f.0)) f.1)
 
 through_avoids : (a : Play) (d : Act) (n : Numbered) (rest : List Numbered) (k : ℕ) → a.commands ≡ n ∷ rest
     → ((line seen : ℕ) → refusals line seen d ≡ []) → Lines k a → Avoids n.line (through (n ∷ rest) d (entered d a))
@@ -574,7 +575,7 @@ files_command a b c d n rest es s t e w cs h step =
     ∙ ap (λ (ns : List (List ℕ)). a.written ++ files_of ns (cons_option (picture_by t d) (pictures_written t es))) (sym (names_more c.refused n a.commands rest (name_written c.refused n) e refl))
 
 -- a file's name, picture and bytes
-no_file_written : (s : State) (d : Act) (c : Command) → file_of c ≡ None → written_by s d c ≡ []
+pub no_file_written : (s : State) (d : Act) (c : Command) → file_of c ≡ None → written_by s d c ≡ []
 no_file_written s d c h = ap (λ (o : Option (List ℕ)). option_to_list (option_and_then (λ name. option_map (file_with name) (picture_by s d)) o)) h
 
 file_written : (s : State) (d : Act) (c : Command) (name : List ℕ) (p : Raster Rgb) → file_of c ≡ Some name → picture_by s d ≡ Some p
@@ -583,7 +584,7 @@ file_written s d c name p h g =
     ap (λ (o : Option (List ℕ)). option_to_list (option_and_then (λ name. option_map (file_with name) (picture_by s d)) o)) h
     ∙ ap (λ (o : Option (Raster Rgb)). option_to_list (option_map (file_with name) o)) g
 
-name_there : (rs : List Refused) (n : Numbered) (name : List ℕ) → is_refused rs n.line ≡ false → file_of n.command ≡ Some name → name_written rs n ≡ Some name
+pub name_there : (rs : List Refused) (n : Numbered) (name : List ℕ) → is_refused rs n.line ≡ false → file_of n.command ≡ Some name → name_written rs n ≡ Some name
 name_there rs n name h g = ap (λ (x : Bool). if x then None else file_of n.command) h ∙ g
 
 command_step : (a c : Play) (d : Act) (n : Numbered) (rest : List Numbered) (es : List Entry) → Shown a.state d n.command
@@ -662,3 +663,24 @@ pub files_are_writes : FilesAreWrites
 files_are_writes o views script workers journal last is legal p =
     files_played p legal (record { opening = o; past = []; legal = tt; state_is = refl }) 1
     (record { positive = omega arith; commands = is.ascend; refused = tt; mode = omega arith })
+
+-- so the line of a command that is next isn't refused yet
+lines_played : {n : ℕ} {a b : Play} {es : List Entry} → Plays n a es b → (k : ℕ) → Lines k a → (m : ℕ) × Lines m b
+lines_played (stops a) k f = (k, f)
+lines_played (quiet a b c es e r) k f =
+    let more = lines_silent (silently a b e) k f in
+    lines_played r more.0 more.1
+lines_played (own a c d es e r) k f =
+    let more = lines_entered a d (entering a d e) k f in
+    lines_played r more.0 more.1
+lines_played (failed a c j es e r) k f =
+    let more = lines_failed a j (failing a j e) k f in
+    lines_played r more.0 more.1
+lines_played (other a c e es low high is r) k f =
+    lines_played r k (record { positive = f.positive; commands = f.commands; refused = f.refused; mode = f.mode })
+
+pub not_refused_yet : (o : Opening) (views : List (Option PixelGrid)) (script : List Numbered) (b : Play) (n : Numbered) (rest : List Numbered) {es : List Entry} → IsPlayable script
+    → Plays 0 (at_first o views script) es b → b.commands ≡ n ∷ rest → is_refused b.refused n.line ≡ false
+not_refused_yet o views script b n rest is plays c =
+    let more = lines_played plays 1 (record { positive = omega arith; commands = is.ascend; refused = tt; mode = omega arith }) in
+    none_below more.0 n.line b.refused (first_line more.0 n b.commands rest c more.1.commands).0 more.1.refused

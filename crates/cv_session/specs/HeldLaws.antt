@@ -23,13 +23,18 @@ abbrev pub AreApart : List Task → Type 0
 AreApart [] = Unit {0}
 AreApart (t ∷ ts) = AllByRecursion (λ u. u ≡ t → ⊥) ts × AreApart ts
 
+-- caller 0 owes these tasks of a state, each once
+pub record HoldsTasks (s : State) (ts : List Task) : Type 0 where
+  pub owed : AllByRecursion (Owes s 0) ts
+  pub apart : AreApart ts
+
 -- what caller 0 holds, whoever else does tasks, is its own to deliver and to finish, and each task once
 abbrev pub HeldTasksAreOwed : Type 0
 HeldTasksAreOwed =
     (o : Opening) (views : List (Option PixelGrid)) (script : List Numbered) (workers : ℕ)
     (journal : List Entry) (last : Play) → IsLegal o journal
     → Plays workers (at_first o views script) journal last
-    → AllByRecursion (Owes last.state 0) last.held × AreApart last.held
+    → HoldsTasks last.state last.held
 
 -- alone, caller 0 always finds a task while it waits for a job without end and holds none
 abbrev pub AloneFindsTasks : Type 0

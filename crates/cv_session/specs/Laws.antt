@@ -15,7 +15,7 @@ use Rattle.cv_event.specs.TextLaws.{FitsOpening, all_edits}
 use Rattle.cv_script.specs.declared.script.Command.{Command}
 use Rattle.cv_script.specs.declared.script.Command.TheVariants as command
 use Rattle.cv_script.specs.declared.script.Numbered.{Numbered}
-use Rattle.cv_script.specs.Scripts.{IsScript}
+use Rattle.cv_session.specs.Playable.{IsPlayable}
 use Rattle.cv_session.specs.Plays.{Play, planned, is_of_worker, Plays}
 use Rattle.cv_session.specs.Follows.{at_first, Follows, FollowsBefore}
 use Rattle.cv_session.specs.Writes.{writes}
@@ -85,7 +85,7 @@ ScriptAndTextTellJournal =
 abbrev pub FilesAreWrites : Type 0
 FilesAreWrites =
     (o : Opening) (views : List (Option PixelGrid)) (script : List Numbered) (workers : ℕ)
-    (journal : List Entry) (last : Play) → IsScript script → IsLegal o journal
+    (journal : List Entry) (last : Play) → IsPlayable script → IsLegal o journal
     → Plays workers (at_first o views script) journal last
     → last.written ≡ writes o script journal last.refused
 

@@ -71,12 +71,16 @@ starts s c =
     if nat_lt (length s.jobs) 4294967295 then Does (act.Start c (suc (length s.jobs)))
     else Refuses reason.TooManyJobs
 
+-- why what speaks of a job with this end is refused
+abbrev pub ended_reason : How → Reason
+ended_reason how_of.Finished = reason.EndedFinished
+ended_reason how_of.Cancelled = reason.EndedCancelled
+ended_reason how_of.NoMemory = reason.EndedNoMemory
+
 -- an act of a job without end, or how the job ended
 abbrev pub unless_ended : Option How → Act → Response
 unless_ended None a = Does a
-unless_ended (Some how_of.Finished) a = Refuses reason.EndedFinished
-unless_ended (Some how_of.Cancelled) a = Refuses reason.EndedCancelled
-unless_ended (Some how_of.NoMemory) a = Refuses reason.EndedNoMemory
+unless_ended (Some h) a = Refuses (ended_reason h)
 
 -- the ready slots of a job, as bits
 abbrev pub ready_of : State → ℕ → ℕ

@@ -3,3 +3,4 @@ pub mod WordLemmas
 pub mod QuickLemmas
 pub mod RunLemmas
 pub mod OpenLemmas
+pub mod SessionLemmas

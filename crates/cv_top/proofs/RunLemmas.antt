@@ -8,14 +8,14 @@ use Rattle.cv_outside.specs.declared.trays.Tray.{Ghosts as TrayGhosts}
 use Rattle.cv_outside.specs.Counts.{Rose}
 use Rattle.cv_outside.specs.Seen.{ShelfSeen, TraySeen, SinkSeen, shelf_seen, tray_seen, sink_seen}
 use Rattle.cv_open.specs.declared.ends.End.{End}
-use Rattle.cv_open.specs.declared.ends.End.TheVariants.{Done, NoMemory, Usage, BadProject, BadData, ReadFault, WriteFault, Missing}
+use Rattle.cv_open.specs.declared.ends.End.TheVariants.{Done, NoMemory, Usage, BadProject, BadData, BadScript, ReadFault, WriteFault, Missing}
 use Rattle.cv_open.specs.declared.ends.Which.{Which}
-use Rattle.cv_open.specs.declared.ends.Which.TheVariants.{Project, Layer, Output, Text}
+use Rattle.cv_open.specs.declared.ends.Which.TheVariants.{Project, Layer, Script, Output, Text}
 use Rattle.cv_top.specs.declared.orders.Order.{Order}
 use Rattle.cv_top.specs.Words.{IsOrder}
-use Rattle.cv_top.specs.Outcomes.{Product, Outcome, end_of, files_of, text_of}
+use Rattle.cv_top.specs.Outcomes.{Product, Refused, Made, Told, Broken, Stopped, Outcome, end_of, text_of}
 use Rattle.cv_open.specs.Readings.{Asked}
-use Rattle.cv_top.specs.Runs.{HasCause, Asks, Keeps, Prints, IsComplete, IsAskedAt, Untouched, Obeys, IsRun, IsRunOf, IsWritten, IsNoFault}
+use Rattle.cv_top.specs.Runs.{HasCause, IsOutput, HasText, IsBegun, Asks, Keeps, Prints, IsComplete, IsAskedAt, Untouched, Obeys, IsRun, IsRunOf, IsWritten, IsNoFault}
 
 -- a cause stays one where more is a cause
 pub more_causes : (end : End) (p : Product) (read : Which → Type 0) (miss write print : Type 0)
@@ -25,12 +25,29 @@ more_causes NoMemory p read miss write print h = h
 more_causes Usage p read miss write print h = h
 more_causes (BadProject error) p read miss write print h = h
 more_causes (BadData place error) p read miss write print h = h
+more_causes (BadScript line) p read miss write print h = h
 more_causes (Missing which) p read miss write print h = absurd h.1
 more_causes (ReadFault which) p read miss write print h = absurd h
 more_causes (WriteFault (Output k)) p read miss write print h = h
 more_causes (WriteFault Text) p read miss write print h = h
 more_causes (WriteFault Project) p read miss write print h = h
 more_causes (WriteFault (Layer place)) p read miss write print h = h
+more_causes (WriteFault Script) p read miss write print h = h
+
+-- what can't be written wasn't refused
+output_begun : (k : ℕ) (p : Product) → IsOutput k p → IsBegun p
+output_begun k (Refused end) h = absurd h
+output_begun k (Made files text) h = tt
+output_begun k (Told memory files text) h = absurd h
+output_begun k (Broken files) h = tt
+output_begun k (Stopped script) h = tt
+
+text_begun : (p : Product) → HasText p → IsBegun p
+text_begun (Refused end) h = absurd h
+text_begun (Made files text) h = tt
+text_begun (Told memory files text) h = tt
+text_begun (Broken files) h = tt
+text_begun (Stopped script) h = tt
 
 -- an end whose cause is no fault is the product's, or want of memory
 pub completes : (end : End) (p : Product) (read : Which → Type 0) (miss write print any : Type 0)
@@ -40,12 +57,14 @@ completes NoMemory p read miss write print any h some r wp = inr refl
 completes Usage p read miss write print any h some r wp = absurd h
 completes (BadProject error) p read miss write print any h some r wp = inl (sym h)
 completes (BadData place error) p read miss write print any h some r wp = inl (sym h)
+completes (BadScript line) p read miss write print any h some r wp = inl (sym h)
 completes (Missing which) p read miss write print any h some r wp = inl (sym h.0)
 completes (ReadFault which) p read miss write print any h some r wp = absurd (r (some which h))
-completes (WriteFault (Output k)) p read miss write print any h some r wp = absurd ((wp h.0).0 h.3)
-completes (WriteFault Text) p read miss write print any h some r wp = absurd ((wp h.0).1 h.1)
+completes (WriteFault (Output k)) p read miss write print any h some r wp = absurd ((wp (output_begun k p h.0)).0 h.1)
+completes (WriteFault Text) p read miss write print any h some r wp = absurd ((wp (text_begun p h.0)).1 h.1)
 completes (WriteFault Project) p read miss write print any h some r wp = absurd h
 completes (WriteFault (Layer place)) p read miss write print any h some r wp = absurd h
+completes (WriteFault Script) p read miss write print any h some r wp = absurd h
 
 -- an end with a cause is not Usage
 pub not_usage : (end : End) (p : Product) (read : Which → Type 0) (miss write print : Type 0)
@@ -60,6 +79,7 @@ asks_all NoMemory p miss write print asked old new h e = (length asked, e ∙ ap
 asks_all Usage p miss write print asked old new h e = e
 asks_all (BadProject error) p miss write print asked old new h e = e
 asks_all (BadData place error) p miss write print asked old new h e = e
+asks_all (BadScript line) p miss write print asked old new h e = e
 asks_all (Missing which) p miss write print asked old new h e = e
 asks_all (ReadFault which) p miss write print asked old new h e = absurd h
 asks_all (WriteFault which) p miss write print asked old new h e = e
@@ -71,12 +91,14 @@ untouched_more NoMemory shelf tray out h = h
 untouched_more Usage shelf tray out h = absurd h.0
 untouched_more (BadProject error) shelf tray out h = h
 untouched_more (BadData place error) shelf tray out h = h
+untouched_more (BadScript line) shelf tray out h = h
 untouched_more (Missing which) shelf tray out h = h
 untouched_more (ReadFault which) shelf tray out h = h
 untouched_more (WriteFault (Output k)) shelf tray out h = h
 untouched_more (WriteFault Text) shelf tray out h = h
 untouched_more (WriteFault Project) shelf tray out h = h
 untouched_more (WriteFault (Layer place)) shelf tray out h = h
+untouched_more (WriteFault Script) shelf tray out h = h
 
 -- what was made of a value that was read leaves no more untouched than the sink
 pub made_untouched : (end : End) (tray out : Type 0) → Untouched end ⊥ ⊥ out → Untouched end ⊥ tray out
@@ -85,12 +107,14 @@ made_untouched NoMemory tray out h = h
 made_untouched Usage tray out h = absurd h.0
 made_untouched (BadProject error) tray out h = absurd h.0
 made_untouched (BadData place error) tray out h = absurd h.0
+made_untouched (BadScript line) tray out h = absurd h.0
 made_untouched (Missing which) tray out h = absurd h.0
 made_untouched (ReadFault which) tray out h = absurd h.0
 made_untouched (WriteFault (Output k)) tray out h = h
 made_untouched (WriteFault Text) tray out h = h
 made_untouched (WriteFault Project) tray out h = h
 made_untouched (WriteFault (Layer place)) tray out h = h
+made_untouched (WriteFault Script) tray out h = h
 
 -- without a fault no end is one
 not_fault : (end : End) (p : Product) (read : Which → Type 0) (miss write print : Type 0) → HasCause end p read miss write print
@@ -100,12 +124,14 @@ not_fault NoMemory p read miss write print h r w o = tt
 not_fault Usage p read miss write print h r w o = tt
 not_fault (BadProject error) p read miss write print h r w o = tt
 not_fault (BadData place error) p read miss write print h r w o = tt
+not_fault (BadScript line) p read miss write print h r w o = tt
 not_fault (Missing which) p read miss write print h r w o = tt
 not_fault (ReadFault which) p read miss write print h r w o = r which h
-not_fault (WriteFault (Output k)) p read miss write print h r w o = w h.3
+not_fault (WriteFault (Output k)) p read miss write print h r w o = w h.1
 not_fault (WriteFault Text) p read miss write print h r w o = o h.1
 not_fault (WriteFault Project) p read miss write print h r w o = h
 not_fault (WriteFault (Layer place)) p read miss write print h r w o = h
+not_fault (WriteFault Script) p read miss write print h r w o = h
 
 -- an end that would be a fault only at no form is none
 faultless : (end : End) (form : Type 0) → (form → end ≡ Usage) → ((IsNoFault end → ⊥) → form) → IsNoFault end
@@ -114,6 +140,7 @@ faultless NoMemory form usage h = tt
 faultless Usage form usage h = tt
 faultless (BadProject error) form usage h = tt
 faultless (BadData place error) form usage h = tt
+faultless (BadScript line) form usage h = tt
 faultless (Missing which) form usage h = tt
 faultless (ReadFault which) form usage h = let e = usage (h (λ x. x)) in absurd (cc)
 faultless (WriteFault which) form usage h = let e = usage (h (λ x. x)) in absurd (cc)
@@ -147,9 +174,11 @@ untouched_tray NoMemory tray out same h = h
 untouched_tray Usage tray out same h = absurd h.0
 untouched_tray (BadProject error) tray out same h = (same, h.1)
 untouched_tray (BadData place error) tray out same h = (same, h.1)
+untouched_tray (BadScript line) tray out same h = (same, h.1)
 untouched_tray (Missing which) tray out same h = (same, h.1)
 untouched_tray (ReadFault which) tray out same h = (same, h.1)
 untouched_tray (WriteFault (Output k)) tray out same h = h
 untouched_tray (WriteFault Text) tray out same h = h
 untouched_tray (WriteFault Project) tray out same h = h
 untouched_tray (WriteFault (Layer place)) tray out same h = h
+untouched_tray (WriteFault Script) tray out same h = h

@@ -16,8 +16,12 @@ use Rattle.std.specs.Result.{result_ok}
 use Rattle.std.proofs.lemmas.Option.{same_Some}
 use Rattle.cv_geom.specs.declared.views.ViewError.{ViewError}
 use Rattle.cv_model.specs.declared.colour.Rgb.{Rgb}
-use Rattle.cv_top.specs.Parts.{QuickParts}
-use Rattle.cv_top.specs.Words.{IsCount, IsViewOf, IsPlan, IsQuick}
+use Rattle.std.proofs.Common.{◌++◌, ◌-◌, suc, take, inl, inr}
+use Rattle.std.proofs.Math.Seq.{take-length}
+use Rattle.std.specs.List.{list_all}
+use Rattle.cv_words.specs.Plain.{is_plain}
+use Rattle.cv_top.specs.Parts.{QuickParts, SessionParts}
+use Rattle.cv_top.specs.Words.{IsCount, IsViewOf, IsPlan, IsQuick, IsOption, Place, First, Middle, Last, placed, IsNamed, IsAlone}
 
 -- ten digits fit 64 bits
 fits : (word : List ℕ) (n : ℕ) → IsCount word n → digits_value 10 word < 2 ^ 64
@@ -138,3 +142,54 @@ is_ordered words a b c d e f g h i j order read q =
       out = ap (at 2) same;
       plan = subst (λ (l : List (List ℕ)). IsPlan (at 3 l) (at 4 l) (at 5 l) (at 6 l) (at 7 l) (at 8 l) (at 9 l) order.view order.fill) (sym same) q.plan;
     }
+
+-- three words and four are read one after the other
+pub three_items : (ws : List (List ℕ)) (a b c : List ℕ) → length ws ≡ 3 → a ≡ get_or ws 0 a → b ≡ get_or ws 1 b → c ≡ get_or ws 2 c → ws ≡ a ∷ b ∷ c ∷ []
+three_items ws a b c n pa pb pc =
+    item ws 0 a (omega arith) pa ∙ ap (λ t. a ∷ t) (item ws 1 b (omega arith) pb ∙ ap (λ t. b ∷ t) (item ws 2 c (omega arith) pc
+    ∙ ap (λ t. c ∷ t) (drop_all 3 ws (omega arith))))
+
+pub four_items : (ws : List (List ℕ)) (a b c d : List ℕ) → length ws ≡ 4 → a ≡ get_or ws 0 a → b ≡ get_or ws 1 b → c ≡ get_or ws 2 c → d ≡ get_or ws 3 d → ws ≡ a ∷ b ∷ c ∷ d ∷ []
+four_items ws a b c d n pa pb pc pd =
+    item ws 0 a (omega arith) pa ∙ ap (λ t. a ∷ t) (item ws 1 b (omega arith) pb ∙ ap (λ t. b ∷ t) (item ws 2 c (omega arith) pc
+    ∙ ap (λ t. c ∷ t) (item ws 3 d (omega arith) pd ∙ ap (λ t. d ∷ t) (drop_all 4 ws (omega arith)))))
+
+-- what stands behind the first word
+pub behind_first : (words : List (List ℕ)) (w : List ℕ) (rest : List (List ℕ)) → words ≡ w ∷ rest → rest ≡ take (length words - 1) (drop 1 words)
+behind_first words w rest e =
+    let n : length (w ∷ rest) ≡ suc (length rest) = refl in
+    let m : length rest ≡ length words - 1 = let l = ap length e in omega (arith, l, n) in
+    sym (take-length rest) ∙ ap (λ (k : ℕ). take k rest) m ∙ ap (λ (ws : List (List ℕ)). take (length words - 1) (drop 1 ws)) (sym e)
+
+-- ---- a session
+
+-- words where the option stands at a place
+module _ (place : Place) (option : List (List ℕ)) (rest : List (List ℕ)) (p s n : List ℕ) where
+  alone : rest ≡ placed place option (record { project = p; script = s; number = n }) → IsOption option n → (r : Option SessionParts) → IfSome r (IsNamed p s n) → IfSome r (IsAlone rest)
+  alone spelled is None h = tt
+  alone spelled is (Some order) h = record {
+    place = place;
+    option = option;
+    spelled = spelled ∙ ap (placed place option) (sym h.is);
+    is_option = subst (λ (o : SessionParts). IsOption option o.number) (sym h.is) is;
+    plain = subst (λ (o : SessionParts). list_all is_plain (o.project ∷ o.script ∷ []) ≡ true) (sym h.is) h.plain;
+    none = subst (λ (o : SessionParts). IsCount o.number 0) (sym h.is) h.none;
+  }
+
+pub one_first : (a b c n : List ℕ) (r : Option SessionParts) → a ≡ codes "--workers=" ++ n → IfSome r (IsNamed b c n) → IfSome r (IsAlone (a ∷ b ∷ c ∷ []))
+one_first a b c n r e h = alone First (a ∷ []) (a ∷ b ∷ c ∷ []) b c n refl (inr (ap (λ (w : List ℕ). w ∷ []) e)) r h
+
+pub one_middle : (a b c n : List ℕ) (r : Option SessionParts) → b ≡ codes "--workers=" ++ n → IfSome r (IsNamed a c n) → IfSome r (IsAlone (a ∷ b ∷ c ∷ []))
+one_middle a b c n r e h = alone Middle (b ∷ []) (a ∷ b ∷ c ∷ []) a c n refl (inr (ap (λ (w : List ℕ). w ∷ []) e)) r h
+
+pub one_last : (a b c n : List ℕ) (r : Option SessionParts) → c ≡ codes "--workers=" ++ n → IfSome r (IsNamed a b n) → IfSome r (IsAlone (a ∷ b ∷ c ∷ []))
+one_last a b c n r e h = alone Last (c ∷ []) (a ∷ b ∷ c ∷ []) a b n refl (inr (ap (λ (w : List ℕ). w ∷ []) e)) r h
+
+pub two_first : (a b c d : List ℕ) (r : Option SessionParts) → a ≡ codes "--workers" → IfSome r (IsNamed c d b) → IfSome r (IsAlone (a ∷ b ∷ c ∷ d ∷ []))
+two_first a b c d r e h = alone First (a ∷ b ∷ []) (a ∷ b ∷ c ∷ d ∷ []) c d b refl (inl (ap (λ (w : List ℕ). w ∷ b ∷ []) e)) r h
+
+pub two_middle : (a b c d : List ℕ) (r : Option SessionParts) → b ≡ codes "--workers" → IfSome r (IsNamed a d c) → IfSome r (IsAlone (a ∷ b ∷ c ∷ d ∷ []))
+two_middle a b c d r e h = alone Middle (b ∷ c ∷ []) (a ∷ b ∷ c ∷ d ∷ []) a d c refl (inl (ap (λ (w : List ℕ). w ∷ c ∷ []) e)) r h
+
+pub two_last : (a b c d : List ℕ) (r : Option SessionParts) → c ≡ codes "--workers" → IfSome r (IsNamed a b d) → IfSome r (IsAlone (a ∷ b ∷ c ∷ d ∷ []))
+two_last a b c d r e h = alone Last (c ∷ d ∷ []) (a ∷ b ∷ c ∷ d ∷ []) a b d refl (inl (ap (λ (w : List ℕ). w ∷ d ∷ []) e)) r h

@@ -2,5 +2,6 @@
 pub mod Parts
 pub mod Words
 pub mod Opened
+pub mod Sessions
 pub mod Outcomes
 pub mod Runs

@@ -14,6 +14,13 @@ pub record QuickParts : Type 0 where
 pub record CheckParts : Type 0 where
   pub project : List ℕ
 
+-- what the words of `session` ask for: the project to open, the script to play, and the number of workers as
+-- it is written, which is 0
+pub record SessionParts : Type 0 where
+  pub project : List ℕ
+  pub script : List ℕ
+  pub number : List ℕ
+
 -- what the words of `paint` ask for: the project to open, the canvas to paint, counted from 0, as it is
 -- written and as a number, and the picture to write
 pub record PaintParts : Type 0 where

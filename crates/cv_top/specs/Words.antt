@@ -1,5 +1,5 @@
 -- The words of each command.
-use Rattle.std.specs.Prelude.{◌≡◌, ℕ, ℤ, ◌≤◌, true, List, [], ◌∷◌, length, take, drop}
+use Rattle.std.specs.Prelude.{◌≡◌, ◌⊎◌, ℕ, ℤ, ◌≤◌, true, List, [], ◌∷◌, ◌++◌, length, take, drop}
 use Rattle.std.specs.Prelude.{Ok, codes}
 use Rattle.std.specs.List.{list_all}
 use Rattle.std.specs.Str.Parse.{AllDigits, IsNumeral, digits_value}
@@ -11,8 +11,8 @@ use Rattle.cv_number.specs.declared.fixed.Fixed.TheVariants.{Value}
 use Rattle.cv_number.specs.Spellings.{Spells}
 use Rattle.cv_words.specs.Plain.{is_plain}
 use Rattle.cv_top.specs.declared.orders.Order.{Order}
-use Rattle.cv_top.specs.declared.orders.Order.TheVariants.{Quick, Check, Paint}
-use Rattle.cv_top.specs.Parts.{QuickParts, CheckParts, PaintParts}
+use Rattle.cv_top.specs.declared.orders.Order.TheVariants.{Quick, Check, Paint, Session}
+use Rattle.cv_top.specs.Parts.{QuickParts, CheckParts, PaintParts, SessionParts}
 
 -- one to ten digits of this value
 pub record IsCount (word : List ℕ) (n : ℕ) : Type 0 where
@@ -86,17 +86,58 @@ pub record IsPaint (words : List (List ℕ)) (order : PaintParts) : Type 0 where
   pub count : IsCount order.number order.canvas
   pub small : order.canvas ≤ 4294967295
 
+-- the option `--workers` with this number, in two words or in one
+abbrev pub IsOption : List (List ℕ) → List ℕ → Type 0
+IsOption option number =
+    (option ≡ codes "--workers" ∷ number ∷ []) ⊎ (option ≡ (codes "--workers=" ++ number) ∷ [])
+
+-- where the option of a session stands: in front of the project, between it and the script, or behind both
+pub data Place : Type 0 where
+  First : Place
+  Middle : Place
+  Last : Place
+
+-- the words behind `session`
+abbrev pub placed : Place → List (List ℕ) → SessionParts → List (List ℕ)
+placed First option order = option ++ order.project ∷ order.script ∷ []
+placed Middle option order = order.project ∷ (option ++ order.script ∷ [])
+placed Last option order = order.project ∷ order.script ∷ option
+
+-- words that are the name of a project and that of a script, and somewhere the option with the number 0
+pub record IsAlone (rest : List (List ℕ)) (order : SessionParts) : Type 0 where
+  pub place : Place
+  pub option : List (List ℕ)
+  pub spelled : rest ≡ placed place option order
+  pub is_option : IsOption option order.number
+  pub plain : list_all is_plain (order.project ∷ order.script ∷ []) ≡ true
+  pub none : IsCount order.number 0
+
+-- two names and a number make a session where the number is 0
+pub record IsNamed (project script number : List ℕ) (order : SessionParts) : Type 0 where
+  pub is : order ≡ record { project = project; script = script; number = number }
+  pub plain : list_all is_plain (project ∷ script ∷ []) ≡ true
+  pub none : IsCount number 0
+
+-- the words are `session` and such words
+pub record IsSession (words : List (List ℕ)) (order : SessionParts) : Type 0 where
+  pub rest : List (List ℕ)
+  pub spelled : words ≡ codes "session" ∷ rest
+  pub alone : IsAlone rest order
+
 -- what is asked for is of words that `clap` reads as they are
 abbrev pub IsPlainOrder : Order → Type 0
 IsPlainOrder (Quick order) = Unit {0}
 IsPlainOrder (Check order) = is_plain order.project ≡ true
 IsPlainOrder (Paint order) = list_all is_plain (paint_words order) ≡ true
+IsPlainOrder (Session order) =
+    list_all is_plain (order.number ∷ order.project ∷ order.script ∷ []) ≡ true
 
 -- the words are a command's form, and ask for this
 abbrev pub IsOrder : List (List ℕ) → Order → Type 0
 IsOrder words (Quick order) = IsQuick words order
 IsOrder words (Check order) = IsCheck words order
 IsOrder words (Paint order) = IsPaint words order
+IsOrder words (Session order) = IsSession words order
 
 -- the words are no command's form
 abbrev pub IsNoForm : List (List ℕ) → Type 0

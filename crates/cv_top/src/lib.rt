@@ -2,17 +2,21 @@
 //!
 //! Contract: a run is what the words ask for over the files that it read (`IsRun`): at each end what was
 //! asked, read, written and printed, with the cause of each answer outside.
-//! Definitions: `Parts`, `Words`, `Opened`, `Outcomes` and `Runs` of this crate, over those of `cv_model`
-//! and `cv_open`.
+//! Definitions: `Parts`, `Words`, `Opened`, `Sessions`, `Outcomes` and `Runs` of this crate, over those of
+//! `cv_model`, `cv_open` and `cv_session`.
 //! Takes memory for what is read and painted; `run` takes a handle that may wait, and doesn't wait.
 #![tactic(auto)]
 
+mod alone;
+mod canvases;
 mod check;
 mod orders;
 mod outputs;
 mod paint;
 mod pictures;
 mod quick;
+mod session;
+mod stage;
 mod top;
 mod words;
 
@@ -23,5 +27,7 @@ pub use top::{run, run_once, run_surely};
 mod check_tests;
 #[cfg(test)]
 mod paint_tests;
+#[cfg(test)]
+mod session_tests;
 #[cfg(test)]
 mod tests;

@@ -12,6 +12,8 @@ pub enum Order<'a> {
     Check(CheckOrder<'a>),
     /// A canvas of a project is painted.
     Paint(PaintOrder<'a>),
+    /// A script is played on a project.
+    Session(SessionOrder<'a>),
 }
 
 /// What the words of `quick` ask for.
@@ -73,5 +75,28 @@ impl<'a> Model for PaintOrder<'a> {
       number = q.number.now;
       canvas = q.canvas;
       out = q.out.now;
+    } };
+}
+
+/// What the words of `session` ask for.
+#[derive(Debug, Drop)]
+pub struct SessionOrder<'a> {
+    /// The name of the project.
+    pub project: &'a str,
+    /// The name of the script.
+    pub script: &'a str,
+    /// How many workers there are, which is none, as it is written.
+    pub number: &'a str,
+}
+
+impl<'a> Model for SessionOrder<'a> {
+    ghost use Rattle.cv_top.specs.Parts.{SessionParts};
+
+    ghost Value = { SessionParts };
+
+    ghost view = { λ q. record {
+      project = q.project.now;
+      script = q.script.now;
+      number = q.number.now;
     } };
 }

@@ -21,9 +21,10 @@ use cv_words::paint_words;
 use std::alloc::Global;
 
 /// The store of an opened project.
-fn store_of(alloc: Global, opened: Opened) -> Result<Store, NoMemory>
+pub(crate) fn store_of(alloc: Global, opened: Opened) -> Result<Store, NoMemory>
     requires { CanOpen opened.file opened.contents }
-    ensures { IfOk result (λ store. project_of store ≡ (opening_in opened).project) }
+    ensures project { IfOk result (λ store. project_of store ≡ (opening_in opened).project) }
+    ensures first { IfOk result (λ store. store.version ≡ 1) }
 {
     Store::open(alloc, opened.file, opened.contents.into_vec())
 }

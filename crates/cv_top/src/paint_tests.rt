@@ -9,7 +9,7 @@ use std::collections::BTreeMap;
 use std::test::Fail;
 
 // A grey square multiplied onto another one, which is painted within a mask.
-const TWO: &str =
+pub(super) const TWO: &str =
     "{\"version\":1,\"background\":\"ffffff\",\"canvases\":[{\"width\":4,\"height\":4,\"cache\":1024,\
     \"extent\":[\"0\",\"0\",\"4\",\"4\"]}],\"layers\":[{\"id\":2,\"name\":\"top\",\
     \"source\":{\"kind\":\"text\",\"file\":\"top.csv\"},\"blend\":\"multiply\",\
@@ -22,21 +22,25 @@ const TWO: &str =
 const BLIND: &str =
     "{\"version\":1,\"background\":\"ffffff\",\"canvases\":[{\"width\":4,\"height\":4}],\"layers\":[]}";
 
-const TOP: &str = "wkt\n\"POLYGON((1 1,3 1,3 3,1 3,1 1))\"\n";
+pub(super) const TOP: &str = "wkt\n\"POLYGON((1 1,3 1,3 3,1 3,1 1))\"\n";
 
-const BASE: &str = "wkt\n\"POLYGON((0 0,4 0,4 4,0 4,0 0))\"\n";
+pub(super) const BASE: &str = "wkt\n\"POLYGON((0 0,4 0,4 4,0 4,0 0))\"\n";
 
-const MASK: &str = "wkt\n\"POLYGON((0 0,4 0,4 2,0 2,0 0))\"\n";
+pub(super) const MASK: &str = "wkt\n\"POLYGON((0 0,4 0,4 2,0 2,0 0))\"\n";
 
 // What stands after a run over devices that never fail.
 #[derive(Drop)]
-struct After {
-    told: String,
-    tray: SureTray,
+pub(super) struct After {
+    pub(super) told: String,
+    pub(super) tray: SureTray,
 }
 
 // A run over these files: its end, how many names were asked, and what was printed.
-fn painted(alloc: Global, line: &str, pairs: &[(&str, &str)]) -> Result<After, AllocError> {
+pub(super) fn painted(
+    alloc: Global,
+    line: &str,
+    pairs: &[(&str, &str)],
+) -> Result<After, AllocError> {
     let mut shelf = MemShelf::new(alloc, files_of(alloc, pairs)?, Vec::new(alloc));
     let mut tray = SureTray::new(alloc, BTreeMap::new(alloc));
     let mut out = SureSink::new(Vec::new(alloc));
@@ -49,7 +53,7 @@ fn painted(alloc: Global, line: &str, pairs: &[(&str, &str)]) -> Result<After, A
 }
 
 // The red of each pixel of a picture of 16, after its head of 11 bytes.
-fn reds(alloc: Global, bytes: &[u8]) -> Result<String, AllocError> {
+pub(super) fn reds(alloc: Global, bytes: &[u8]) -> Result<String, AllocError> {
     let mut text = String::new(alloc);
     for at in 0..16 {
         let red = bytes.get(11 + 3 * at).copied().unwrap_or(0);

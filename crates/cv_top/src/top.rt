@@ -7,6 +7,7 @@ use crate::check::check;
 use crate::orders::Order;
 use crate::paint::paint;
 use crate::quick::quick;
+use crate::session::session;
 use crate::words::order_of;
 use cv_model::Text;
 use cv_open::End;
@@ -28,6 +29,12 @@ use std::thread::Threads;
 /// `paint <project> <canvas> <out>` opens the project in the same way, paints what the canvas of that number,
 /// counted from 0, shows at first, writes the picture as a pixmap, and prints `image w h`. A canvas that
 /// isn't there or has no extent is refused before any layer is read.
+///
+/// `session <project> <script> --workers 0`, where the option may stand in front of either name too, opens
+/// the project in the same way, reads the script, gives each canvas with an extent its first view, plays the
+/// script, whose `preview` and `save` write their pictures at once, and prints the journal. A script that
+/// isn't in the grammar is refused before anything is played. A session in which a task got no memory prints
+/// its journal too, and ends for want of memory.
 pub fn run_once<F: Shelf, T: Tray, O: Sink>(
     alloc: Global,
     words: &[Text],
@@ -60,6 +67,7 @@ fn obey<F: Shelf, T: Tray, O: Sink>(
         Order::Quick(order) => quick(alloc, order, shelf, tray, out),
         Order::Check(order) => check(alloc, order, shelf, out),
         Order::Paint(order) => paint(alloc, order, shelf, tray, out),
+        Order::Session(order) => session(alloc, order, shelf, tray, out),
     }
 }
 

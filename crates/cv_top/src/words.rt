@@ -13,6 +13,7 @@ ghost use Rattle.cv_top.specs.Words.{IsCount, IsColour, IsValueOf, IsExtentOf, I
 ghost use Rattle.cv_top.specs.Words.{IsCheck, IsPaint, IsOrder};
 ghost use Rattle.cv_words.specs.Plain.{is_plain};
 
+use crate::alone::session_order;
 use crate::orders::{CheckOrder, Order, PaintOrder, QuickOrder};
 use cv_decimal::Fixed;
 use cv_geom::view_of;
@@ -26,14 +27,17 @@ pub fn order_of(words: &[Text]) -> Option<Order<'_>>
     if let Some(order) = check_order(words) {
         return Some(Order::Check(order));
     }
-    match paint_order(words) {
-        Some(order) => Some(Order::Paint(order)),
+    if let Some(order) = paint_order(words) {
+        return Some(Order::Paint(order));
+    }
+    match session_order(words) {
+        Some(order) => Some(Order::Session(order)),
         None => Some(Order::Quick(quick_order(words)?)),
     }
 }
 
 /// Whether a word may name a file: it isn't empty, and doesn't begin with a hyphen.
-fn is_plain(word: &[u8]) -> bool
+pub(crate) fn is_plain(word: &[u8]) -> bool
     ensures { result ≡ is_plain word.now }
 {
     match word.first() {
@@ -191,7 +195,7 @@ fn sized(w: &str, h: &str, extent: Extent) -> Option<View>
 }
 
 /// One to ten digits as a number of 32 bits. One that is too large is none.
-fn whole(word: &str) -> Option<u32>
+pub(crate) fn whole(word: &str) -> Option<u32>
     ensures found { IfSome result (λ n. IsCount word.now n) }
     ensures only { (n : ℕ) → n ≤ 4294967295 → IsCount word.now n → result ≡ Some n }
 {

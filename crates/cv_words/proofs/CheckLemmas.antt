@@ -1,9 +1,9 @@
 -- What `clap` makes of the word behind `check`.
-use Rattle.std.proofs.Common.{◌≡◌, ◌∙◌, ◌==◌, ◌&&◌, ◌||◌, ℕ, Bool, true, false, List, [], ◌∷◌, Option, Some, None, refl, sym, ap, subst, codes}
+use Rattle.std.proofs.Common.{◌≡◌, ◌∙◌, ◌==◌, ◌&&◌, ℕ, true, false, List, [], ◌∷◌, Some, refl, ap, codes}
 use Rattle.std.specs.List.{list_all}
 use Rattle.clap.specs.Walk.{Held, Rule, Text, Walk, nothing_held, walk, walk_from, walked, first_of, finished}
 use Rattle.clap.specs.Simple.{App, Shape, built, is_simple, matches_of, new_rule, new_shape}
-use Rattle.clap.specs.Takes.{takes, built_takes, level_passes, walk_passes, turn_passes, settle_passes, default_passes, is_valid}
+use Rattle.clap.specs.Takes.{takes, built_takes, level_passes, walk_passes, settle_passes, default_passes, is_valid}
 use Rattle.clap.proofs.TakesLemmas.{leaf_takes}
 use Rattle.clap.proofs.OnLiterals.{clap_on_literals}
 use Rattle.cv_words.proofs.PlainLemmas.{standing, turn_plain, walked_plain}

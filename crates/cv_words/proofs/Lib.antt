@@ -2,3 +2,4 @@
 pub mod PlainLemmas
 pub mod CheckLemmas
 pub mod PaintLemmas
+pub mod SessionLemmas

@@ -1,10 +1,10 @@
 -- What `clap` makes of a word that isn't empty and doesn't begin with a hyphen.
-use Rattle.std.proofs.Common.{◌≡◌, ◌∙◌, ◌==◌, ◌&&◌, ◌||◌, ℕ, Bool, true, false, List, [], ◌∷◌, Option, Some, None, if◌then◌else◌, option_and_then, unwrap_or, not, length, true≢false, arith, refl, sym, ap, codes}
+use Rattle.std.proofs.Common.{◌≡◌, ◌∙◌, ◌==◌, ◌&&◌, ◌||◌, ℕ, Bool, true, false, List, [], ◌∷◌, Some, None, if◌then◌else◌, option_and_then, unwrap_or, not, length, true≢false, arith, refl, sym, ap, codes}
 use Rattle.std.specs.List.{list_all}
 use Rattle.std.specs.Option.{option_map_or}
 use Rattle.std.specs.Str.{bytes_eq}
 use Rattle.clap.specs.Lexer.{long_of, long_of_rest, short_of, short_of_rest, strip_byte}
-use Rattle.clap.specs.Walk.{Held, Rule, Step, Text, Walk, idle, value, trailing, word_met, walked, after_step, to_positional, arg_by_index, long_or_other, short_or_plain, Row, first_of, rows_of}
+use Rattle.clap.specs.Walk.{Held, Rule, Step, Text, Walk, idle, option, next, value, trailing, option_word, arg_by_id, word_met, walked, after_step, to_positional, arg_by_index, long_or_other, short_or_plain, Row, first_of, rows_of}
 use Rattle.clap.specs.Simple.{App, Shape, app_of_fields, new_app, on_top}
 use Rattle.clap.specs.declared.builder.command.Command.{Command}
 use Rattle.clap.specs.declared.builder.command.Command.TheOpen.{Command-F}
@@ -13,7 +13,7 @@ use Rattle.clap.specs.Matches.{found_of}
 use Rattle.clap.specs.declared.parser.matches.ArgMatches.{ArgMatches}
 use Rattle.clap.proofs.WalkLemmas.{first_value-rows}
 use Rattle.cv_words.specs.Found.{word_at}
-use Rattle.cv_words.specs.Plain.{is_plain}
+use Rattle.cv_words.specs.Plain.{is_plain, AreSessionWords}
 
 -- where the walk stands before a word, while nothing waits
 abbrev pub standing : Held → ℕ → Walk
@@ -60,6 +60,39 @@ module _ (byte : ℕ) (bytes : List ℕ) (plain : (byte == 45) ≡ false) where
   unfolding walked
   walked_plain rules held position = ap (λ (met : Held × Step). after_step rules (byte ∷ bytes) (standing held position) met.0 met.1) (plain_met rules position held)
 
+-- where the walk stands before a word, while an option waits for its value
+abbrev pub waiting_for : Text → Held → ℕ → Walk
+waiting_for id held position = record { held = held; waiting = option id; position = position; is_trailing = false; stopped = None }
+
+-- the word is the option's value
+module _ (byte : ℕ) (bytes : List ℕ) (plain : (byte == 45) ≡ false) (rules : List Rule) (id : Text) (held : Held) where
+  pub value_met : (position : ℕ) → word_met rules [] false (option id) position (byte ∷ bytes) held
+      ≡ ((option_word (arg_by_id rules id) id (byte ∷ bytes) held).0, next (option_word (arg_by_id rules id) id (byte ∷ bytes) held).1)
+  value_met position =
+      ap (λ b. if b then (held, trailing position) else long_or_other rules (option id) (byte ∷ bytes) (long_of (byte ∷ bytes)) held) (no_dashes byte bytes plain)
+      ∙ ap (λ o. long_or_other rules (option id) (byte ∷ bytes) o held) (no_long byte bytes plain)
+      ∙ ap (λ o. short_or_plain rules (option id) (byte ∷ bytes) o held) (no_short byte bytes plain)
+
+  pub value_passes : (s : Shape) → s.rules ≡ rules → (position : ℕ) → turn_passes s [] (waiting_for id held position) (byte ∷ bytes) ≡ true
+  value_passes s same position =
+      ap (λ b. b && step_passes s position (word_met s.rules [] false (option id) position (byte ∷ bytes) held).0 (word_met s.rules [] false (option id) position (byte ∷ bytes) held).1)
+      (ap (λ b. b || flag_word_passes s.rules s.args_override_self (long_of (byte ∷ bytes)) (byte ∷ bytes) held) (no_dashes byte bytes plain)
+      ∙ ap (λ o. flag_word_passes s.rules s.args_override_self o (byte ∷ bytes) held) (no_long byte bytes plain)
+      ∙ ap (λ o. option_map_or (λ flags. bundle_passes s.rules s.args_override_self flags held) o true) (no_short byte bytes plain))
+      ∙ ap (λ (rs : List Rule). step_passes s position (word_met rs [] false (option id) position (byte ∷ bytes) held).0 (word_met rs [] false (option id) position (byte ∷ bytes) held).1) same
+      ∙ ap (λ (met : Held × Step). step_passes s position met.0 met.1) (value_met position)
+
+  pub walked_value : (position : ℕ) → walked rules [] (waiting_for id held position) (byte ∷ bytes)
+      ≡ record {
+        held = (option_word (arg_by_id rules id) id (byte ∷ bytes) held).0;
+        waiting = (option_word (arg_by_id rules id) id (byte ∷ bytes) held).1;
+        position = position;
+        is_trailing = false;
+        stopped = None;
+      }
+  unfolding walked
+  walked_value position = ap (λ (met : Held × Step). after_step rules (byte ∷ bytes) (waiting_for id held position) met.0 met.1) (value_met position)
+
 not_true : (b : Bool) → not b ≡ true → b ≡ false
 not_true true e = absurd (true≢false (sym e))
 not_true false e = refl
@@ -85,6 +118,14 @@ pub one_plain : (words : List (List ℕ)) → length words ≡ 1 → list_all is
 one_plain [] one plain = absurd (omega arith)
 one_plain (word ∷ []) one plain = (word, refl, plain_word word (both (is_plain word) true plain).0)
 one_plain (word ∷ other ∷ words) one plain = absurd (omega arith)
+
+-- the words of a session are the option and three plain words
+pub session_plain : (words : List (List ℕ)) → AreSessionWords words
+    → (a b c : List ℕ) × (words ≡ codes "--workers" ∷ a ∷ b ∷ c ∷ []) × IsPlainWord a × IsPlainWord b × IsPlainWord c
+session_plain words w =
+    let first = both (is_plain w.number) _ w.plain in
+    let second = both (is_plain w.project) _ first.1 in
+    (w.number, w.project, w.script, w.spelled, plain_word w.number first.0, plain_word w.project second.0, plain_word w.script (both (is_plain w.script) true second.1).0)
 
 -- three plain words
 pub three_plain : (words : List (List ℕ)) → length words ≡ 3 → list_all is_plain words ≡ true

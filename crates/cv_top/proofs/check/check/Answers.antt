@@ -11,6 +11,6 @@ use Rattle.cv_top.proofs.check.check.Goals as goal
 
 pub returns-in-Err-clause-run : goal.returns-in-Err-clause-run
 returns-in-Err-clause-run g c = λ tray.
-    stopped_run (Check c.args.order.now) (opened c.args.order.now.project) checked (λ found. refl)
+    stopped_run (Check c.args.order.now) (opened c.args.order.now.project) checked (λ found. refl) (λ x f. (0, λ q. refl))
     (shelf_seen g.F.Shelf c.args.shelf.now) (shelf_seen g.F.Shelf c.args.shelf.now) tray
     (sink_seen g.O.Sink c.args.out.now) NoMemory (opened c.args.order.now.project, stays _ _)

@@ -16,7 +16,7 @@ returns-in-Ok-clause-run g c = λ tray.
 
 pub returns-in-Err-clause-run : goal.returns-in-Err-clause-run
 returns-in-Err-clause-run g c = λ tray.
-    stopped_run (Check (record { project = c.args.project.now })) (opened c.args.project.now) checked (λ found. refl)
+    stopped_run (Check (record { project = c.args.project.now })) (opened c.args.project.now) checked (λ found. refl) (λ x f. (0, λ q. refl))
     (shelf_seen g.F.Shelf c.args.shelf.now) (shelf_seen g.F.Shelf c.open.new.shelf) tray
     (sink_seen g.O.Sink c.args.out.now) c.in-Err.end c.in-Err.ensures.read
 

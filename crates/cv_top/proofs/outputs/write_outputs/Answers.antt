@@ -5,7 +5,7 @@ use Rattle.cv_top.proofs.outputs.write_outputs.Goals as goal
 
 pub returns-in-Failed-clause-written : goal.returns-in-Failed-clause-written
 returns-in-Failed-clause-written g c = record {
-  cause = (refl, omega arith, omega arith, c.in-Failed.ensures.cause);
+  cause = ((omega arith, omega arith), c.in-Failed.ensures.cause);
   outputs = λ t. record {
     mid = g.T.Tray.file_at c.args.tray.now;
     before = λ q. refl;

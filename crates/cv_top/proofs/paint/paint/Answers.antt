@@ -19,6 +19,6 @@ returns-in-Err g c =
       shelf_stands = shelf_stays shelf;
       tray_stands = tray_stays (tray_seen g.T.Tray c.args.tray.now);
       out_stands = sink_stays (sink_seen g.O.Sink c.args.out.now);
-      run = stopped_run (Paint order) all (painted order) (λ found. refl) shelf shelf (tray_seen g.T.Tray c.args.tray.now)
+      run = stopped_run (Paint order) all (painted order) (λ found. refl) (λ x f. (0, λ q. refl)) shelf shelf (tray_seen g.T.Tray c.args.tray.now)
           (sink_seen g.O.Sink c.args.out.now) NoMemory (all, stays all shelf);
     }

@@ -62,5 +62,5 @@ returns-in-Err g c =
       shelf_stands = c.in-Err.ensures.stands;
       tray_stands = tray_stays tray;
       out_stands = sink_stays out;
-      run = stopped_run (Quick order) all (quick_made order) (λ found. refl) shelf shelf' tray out c.in-Err.end read;
+      run = stopped_run (Quick order) all (quick_made order) (λ found. refl) (λ x f. (0, λ q. refl)) shelf shelf' tray out c.in-Err.end read;
     }

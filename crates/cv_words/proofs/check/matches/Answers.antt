@@ -1,9 +1,9 @@
 -- `clap` takes the word, and gives it.
-use Rattle.std.proofs.Common.{◌≡◌, ◌∙◌, rules, true, List, ℕ, [], ◌∷◌, Some, map, length, option_map, codes, ap, ap₂, sym, subst}
+use Rattle.std.proofs.Common.{◌≡◌, ◌∙◌, rules, [], ◌∷◌, map, codes, ap, ap₂, sym}
 use Rattle.std.proofs.lemmas.Result.{IfErr-weaker, IfOk-weaker}
 use Rattle.std.proofs.lemmas.List.{length-map}
-use Rattle.clap.specs.Walk.{Text, first_of}
-use Rattle.clap.specs.Words.{App, app_of, found_of, is_simple, matches_of, new_app, rule_of, takes, with_rule}
+use Rattle.clap.specs.Walk.{Text}
+use Rattle.clap.specs.Words.{app_of, is_simple, matches_of, rule_of, takes, with_rule}
 use Rattle.cv_words.proofs.PlainLemmas.{bare_app, found_word, settings, one_plain}
 use Rattle.cv_words.proofs.CheckLemmas.{check, project, check_simple, check_takes, check_gives}
 use Rattle.cv_words.proofs.check.matches.Goals as goal

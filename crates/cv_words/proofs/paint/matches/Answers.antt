@@ -1,9 +1,9 @@
 -- `clap` takes the words, and gives them.
-use Rattle.std.proofs.Common.{◌≡◌, ◌∙◌, rules, true, List, ℕ, [], ◌∷◌, Some, map, length, codes, ap, ap₂, sym}
+use Rattle.std.proofs.Common.{◌≡◌, ◌∙◌, rules, [], ◌∷◌, map, codes, ap, ap₂, sym}
 use Rattle.std.proofs.lemmas.Result.{IfErr-weaker, IfOk-weaker}
 use Rattle.std.proofs.lemmas.List.{length-map}
-use Rattle.clap.specs.Walk.{Row, Text, first_of, rows_of}
-use Rattle.clap.specs.Words.{App, app_of, first_value, found_of, is_simple, matches_of, new_app, rule_of, takes, with_rule}
+use Rattle.clap.specs.Walk.{Text}
+use Rattle.clap.specs.Words.{app_of, is_simple, matches_of, rule_of, takes, with_rule}
 use Rattle.cv_words.specs.Found.{word_at}
 use Rattle.cv_words.proofs.PlainLemmas.{bare_app, found_word, settings, three_plain}
 use Rattle.cv_words.proofs.PaintLemmas.{rule, paint, paint_simple, paint_takes, gives_project, gives_canvas, gives_out}
