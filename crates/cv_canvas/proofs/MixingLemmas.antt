@@ -23,13 +23,13 @@ rewritten f xs ys i v d below so_far read =
     (map_over_more f xs ys i (get_or ys i d) below so_far (get_or_default ys i d (get_or ys i d) long))
 
 -- a number times what it is divided by
-rnd_exact : (c d : ℕ) → 0 < d → rnd (d * c) d ≡ c
+pub rnd_exact : (c d : ℕ) → 0 < d → rnd (d * c) d ≡ c
 rnd_exact c d some =
     let e : 2 * (d * c) + d ≡ c * (2 * d) + d = grind arith in
     rw e (div-mul-add c (2 * d) d (omega arith))
 
 -- four equal fields are equal colours
-same_colour : (s : Rgba) (r g b a : ℕ) → r ≡ s.r → g ≡ s.g → b ≡ s.b → a ≡ s.a
+pub same_colour : (s : Rgba) (r g b a : ℕ) → r ≡ s.r → g ≡ s.g → b ≡ s.b → a ≡ s.a
     → (let made : Rgba = record { r = r; g = g; b = b; a = a } in made) ≡ s
 same_colour s r g b a er eg eb ea = rw (er, eg, eb, ea) refl
 

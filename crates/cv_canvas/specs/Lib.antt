@@ -3,3 +3,5 @@ pub mod Canvas
 pub mod Mixing
 pub mod Pixels
 pub mod Cover
+pub mod Opaque
+pub mod Counts

@@ -6,11 +6,18 @@
 #![tactic(auto)]
 
 mod canvas;
+mod counts;
 mod cover;
 mod mixing;
+mod opaque;
 mod pixels;
 
 pub use canvas::Canvas;
+pub use counts::CountCanvas;
 pub use cover::Cover;
 pub use mixing::lay_on;
+pub use opaque::OpaqueCanvas;
 pub use pixels::PixelCanvas;
+
+#[cfg(test)]
+mod tests;

@@ -1,6 +1,7 @@
 //! Edits that are accepted, and what they make.
 use crate::worked::{held, mixed, seen, store, told};
 use cv_layer::{Stamp, Stamps};
+use cv_model::{Cell, Edit};
 use std::alloc::AllocError;
 use std::test::Fail;
 
@@ -84,6 +85,32 @@ fn each_edit_is_accepted(rt: HostRuntime) -> Result<(), Fail> {
     assert_eq!(rt;
         seen(rt.alloc(), &store, 2)?.as_str(),
         "1000000 2000000 - 4000000 "
+    );
+    Ok(())
+}
+
+#[test]
+fn a_cell_may_be_the_least_number(rt: HostRuntime) -> Result<(), Fail> {
+    let mut store = mixed(rt.alloc())?;
+    let least = Cell::Value(i64::MIN);
+    for (row, cell) in [
+        (0, least),
+        (1, least),
+        (0, Cell::Void),
+        (0, least),
+        (1, Cell::Void),
+    ] {
+        let edit = Edit::SetCell {
+            layer: 2,
+            row,
+            col: 0,
+            cell,
+        };
+        assert!(rt; store.apply(&edit).is_ok());
+    }
+    assert_eq!(rt;
+        seen(rt.alloc(), &store, 2)?.as_str(),
+        "-9223372036854775808 2000000 - 4000000 "
     );
     Ok(())
 }

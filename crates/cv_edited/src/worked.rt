@@ -102,10 +102,12 @@ fn features(alloc: Global, table: &Table) -> Result<String, NoMemory> {
 /// The cells of a grid in order, in millionths; those without data as `-`.
 fn cells(alloc: Global, cells: &Cells) -> Result<String, NoMemory> {
     let mut text = String::new(alloc);
-    for cell in cells.cells().iter() {
-        match cell {
-            Cell::Value(value) => write!(text, "{value} ")?,
-            Cell::Void => text.push_str("- ")?,
+    let cells = cells.cells();
+    for at in 0..cells.len() {
+        match cells.get(at) {
+            Some(Cell::Value(value)) => write!(text, "{value} ")?,
+            Some(Cell::Void) => text.push_str("- ")?,
+            None => {}
         }
     }
     Ok(text)

@@ -10,10 +10,11 @@ fn summary(alloc: Global, grid: &Grid) -> Result<String, Fail> {
     let (left2, bottom2) = (grid.left2(), grid.bottom2());
     let (dx, dy) = (grid.dx(), grid.dy());
     let mut text = format!(in alloc; "{cols}x{rows} {left2} {bottom2} {dx} {dy}:")?;
-    for cell in grid.cells() {
-        match cell {
-            Cell::Value(number) => write!(text, " {number}")?,
-            Cell::Void => text.push_str(" -")?,
+    for at in 0..grid.cells().len() {
+        match grid.cells().get(at) {
+            Some(Cell::Value(number)) => write!(text, " {number}")?,
+            Some(Cell::Void) => text.push_str(" -")?,
+            None => {}
         }
     }
     Ok(text)

@@ -1,3 +1,4 @@
 -- Lemmas about the definitions of layers.
 pub mod BoxLemmas
 pub mod TableLemmas
+pub mod PlaceLemmas

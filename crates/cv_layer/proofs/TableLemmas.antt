@@ -464,13 +464,13 @@ narrowed_none fs id low high h was met other =
 -- ---- a pass by runs
 
 -- an element of a run is that of the list
-run_at : (fs : List Feature) (at : ℕ) (run : List Feature) (k : ℕ) (d : Feature) → IsRunFrom fs at run
+pub run_at : {X : Type 0} (fs : List X) (at : ℕ) (run : List X) (k : ℕ) (d : X) → IsRunFrom fs at run
     → k < length run → get_or fs (at + k) d ≡ get_or run k d
 run_at fs at run k d is within =
     sym (get_or-drop at fs k d) ∙ sym (get_or-take (length run) (drop at fs) k d within)
     ∙ ap (λ l. get_or l k d) is.same
 
-run_within : (fs : List Feature) (at : ℕ) (run : List Feature) → IsRunFrom fs at run
+pub run_within : {X : Type 0} (fs : List X) (at : ℕ) (run : List X) → IsRunFrom fs at run
     → at + length run ≤ length fs
 run_within fs at run is =
     let long = ap length is.same in
@@ -479,15 +479,15 @@ run_within fs at run is =
     grind (arith, long, cut, rest, is.some)
 
 -- no element of a list has an id where none is found
-none_at : (id : ℕ) (fs : List Feature) (k : ℕ) (d : Feature) → position (is_feature id) fs ≡ None
-    → k < length fs → is_feature id (get_or fs k d) ≡ false
-none_at id fs k d none within = fails_before_first (is_feature id) fs k d (by (nat_lt (position_or_len
-    (is_feature id) fs) (length fs)) refl none)
+pub none_at : {X : Type 0} (p : X → Bool) (fs : List X) (k : ℕ) (d : X) → position p fs ≡ None
+    → k < length fs → p (get_or fs k d) ≡ false
+none_at p fs k d none within = fails_before_first p fs k d (by (nat_lt (position_or_len p fs) (length fs))
+    refl none)
   where
-    by : (b : Bool) → nat_lt (position_or_len (is_feature id) fs) (length fs) ≡ b
-        → cond b (Some (position_or_len (is_feature id) fs)) None ≡ None → k < position_or_len (is_feature id) fs
+    by : (b : Bool) → nat_lt (position_or_len p fs) (length fs) ≡ b
+        → cond b (Some (position_or_len p fs)) None ≡ None → k < position_or_len p fs
     by true e h = absurd cc
-    by false e h = let over : length fs ≤ position_or_len (is_feature id) fs = grind (arith, nat_tests, e) in
+    by false e h = let over : length fs ≤ position_or_len p fs = grind (arith, nat_tests, e) in
         omega (arith, within, over)
 
 -- what a pass knows behind a run in which the id isn't
@@ -500,7 +500,7 @@ passed_more id fs at run is none before k d within = dite (dec_le at k)
     let j : at + (k - at) ≡ k = omega arith in
     ap (λ n. is_feature id (get_or fs n d)) (sym j)
     ∙ ap (is_feature id) (run_at fs at run (k - at) d is (omega arith))
-    ∙ none_at id run (k - at) d none (omega arith)) (λ early. before k d (omega arith))
+    ∙ none_at (is_feature id) run (k - at) d none (omega arith)) (λ early. before k d (omega arith))
 
 -- and what it finds in one
 pub passed_found : (id : ℕ) (fs : List Feature) (at : ℕ) (run : List Feature) (place : ℕ) → IsRunFrom fs at run

@@ -3,7 +3,7 @@
 ghost use Rattle.std.specs.Prelude.{◌≡◌, ◌+◌, ◌*◌, ◌<◌, length, IfOk, set};
 ghost use Rattle.cv_model.specs.Grids.{IsGrid};
 
-use cv_chunks::Chunked;
+use crate::packed::CellChunks;
 use cv_model::{Cell, Grid, NoMemory};
 use std::marker::Model;
 
@@ -20,7 +20,7 @@ pub struct Cells {
     bottom2: i64,
     dx: u64,
     dy: u64,
-    cells: Chunked<Cell>,
+    cells: CellChunks,
 }
 
 impl Model for Cells {
@@ -64,7 +64,7 @@ impl Cells {
             bottom2,
             dx,
             dy,
-            cells: Chunked::of(grid.into_cells().into_vec())?,
+            cells: CellChunks::of(grid.into_cells())?,
         })
     }
 
@@ -110,9 +110,8 @@ impl Cells {
         self.dy
     }
 
-    /// The cells, the northernmost row first and each row from the west. `run_from` lends those from a place
-    /// on that stand side by side.
-    pub fn cells(&self) -> &Chunked<Cell>
+    /// The cells, the northernmost row first and each row from the west.
+    pub fn cells(&self) -> &CellChunks
         ensures cells { result.now ≡ self.now.cells }
         ensures kept { IsGrid self.now }
     {
@@ -141,19 +140,15 @@ impl Cells {
           cells = (set self.now.cells (row * self.now.cols + col) cell);
         }) }
     {
-        let mut cells = self.cells.share()?;
-        match cells.set(self.place_of(row, col), cell) {
-            Ok(()) => Ok(Cells {
-                cols: self.cols,
-                rows: self.rows,
-                left2: self.left2,
-                bottom2: self.bottom2,
-                dx: self.dx,
-                dy: self.dy,
-                cells,
-            }),
-            Err(refused) => Err(refused.1),
-        }
+        Ok(Cells {
+            cols: self.cols,
+            rows: self.rows,
+            left2: self.left2,
+            bottom2: self.bottom2,
+            dx: self.dx,
+            dy: self.dy,
+            cells: self.cells.with_cell(self.place_of(row, col), cell)?,
+        })
     }
 
     /// The place of a cell in the list of all.

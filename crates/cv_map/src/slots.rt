@@ -14,6 +14,7 @@ use cv_compose::{Slot, SlotImages, SlotList};
 use cv_layer::{PaintedLayer, Piece};
 use cv_model::{LayerFrame, NoMemory, Scales, View};
 use cv_outside::Never;
+use cv_paint::PaintError;
 use cv_store::Store;
 use std::alloc::{AllocError, Global};
 
@@ -76,9 +77,10 @@ fn paint_layer(
         input,
         view: *view,
     };
-    // `Never` doesn't stop a painting, so what is refused wants memory.
-    let Ok(painted) = cv_paint::paint(alloc, &piece, &mut Never) else {
-        return Err(AllocError);
+    let painted = match cv_paint::paint(alloc, &piece, &mut Never) {
+        Ok(painted) => painted,
+        Err(PaintError::NoMemory) => return Err(AllocError),
+        Err(PaintError::Stopped) => unreachable!(),
     };
     match Shared::of(alloc, painted) {
         Ok(shared) => Ok(Some(shared)),

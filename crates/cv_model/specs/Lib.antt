@@ -8,6 +8,7 @@ pub mod Markers
 pub mod Geometries
 pub mod Features
 pub mod Grids
+pub mod Packed
 pub mod Colours
 pub mod Blends
 pub mod Symbols

@@ -2,7 +2,7 @@
 
 ghost use Rattle.std.specs.Prelude.{◌≡◌};
 
-use crate::sequence::Sequence;
+use crate::cells::CellList;
 use std::marker::Model;
 
 /// A cell of a grid.
@@ -13,9 +13,6 @@ pub enum Cell {
     /// No data.
     Void,
 }
-
-/// Cells, the northernmost row first and each row from the west.
-pub type CellList = Sequence<Cell>;
 
 /// A grid of cells laid on the map, seen as its columns and rows, its left and bottom edge in doubled
 /// millionths, the width and height of a cell in millionths, and its cells, the northernmost row first and
@@ -146,11 +143,11 @@ impl Grid {
     }
 
     /// The cells, the northernmost row first and each row from the west.
-    pub fn cells(&self) -> &[Cell]
+    pub fn cells(&self) -> &CellList
         ensures cells { result.now ≡ self.now.cells }
         ensures kept { IsGrid self.now }
     {
-        self.cells.as_slice()
+        &self.cells
     }
 
     /// The cells by themselves.

@@ -2,10 +2,11 @@
 //!
 //! Contract: each type keeps what its definition says, and is seen as a list, a number or a record of its
 //! parts. Definitions, from positions to the picture of a project and to its edits: see `specs/Lib.antt`
-//! for their order. Only `with_room`, `push`, `put` and `Text::of` take memory; no handle is needed.
+//! for their order. Only `with_room`, `push`, `put`, `copy` and `Text::of` take memory; no handle is needed.
 #![tactic(auto)]
 
 mod blend;
+mod cells;
 mod classes;
 mod colour;
 mod delimiter;
@@ -33,6 +34,7 @@ mod view;
 mod wkt_error;
 
 pub use blend::Blend;
+pub use cells::CellList;
 pub use classes::Classes;
 pub use colour::{Rgb, Rgba};
 pub use delimiter::Delimiter;
@@ -40,7 +42,7 @@ pub use edit::{Edit, EditError};
 pub use extent::Extent;
 pub use feature::{Feature, FeatureList, Values};
 pub use geometry::{Geometry, Line};
-pub use grid::{Cell, CellList, Grid};
+pub use grid::{Cell, Grid};
 pub use layer::{Join, LayerData, LayerFrame, NewLayer, Scales};
 pub use limits::MOST_BYTES;
 pub use note::Note;

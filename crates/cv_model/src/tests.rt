@@ -1,6 +1,6 @@
 //! What no clause says: each call that takes memory can answer, and a list works at a type that must be
 //! dropped.
-use crate::{Point, Polygon, Rgb, RgbList, Ring, Text};
+use crate::{Cell, CellList, Point, Polygon, Rgb, RgbList, Ring, Text};
 use std::test::Fail;
 
 const RED: Rgb = Rgb { r: 255, g: 0, b: 0 };
@@ -17,6 +17,20 @@ fn a_list_takes_items(rt: HostRuntime) -> Result<(), Fail> {
     for (at, want) in [(0, Some(&RED)), (1, Some(&BLUE)), (2, None)] {
         assert_eq!(rt; colours.get(at), want, "at {at}");
     }
+    Ok(())
+}
+
+#[test]
+fn a_list_of_cells_takes_each_value(rt: HostRuntime) -> Result<(), Fail> {
+    let mut cells = CellList::with_room(rt.alloc(), 1)?;
+    for cell in [Cell::Void, Cell::Value(i64::MIN), Cell::Value(-1)] {
+        cells.put(cell)?;
+    }
+    let copy = cells.copy(rt.alloc())?;
+    assert_eq!(rt; copy.get(0), Some(Cell::Void));
+    assert_eq!(rt; copy.get(1), Some(Cell::Value(i64::MIN)));
+    assert_eq!(rt; copy.get(2), Some(Cell::Value(-1)));
+    assert_eq!(rt; copy.get(3), None);
     Ok(())
 }
 

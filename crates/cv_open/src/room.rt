@@ -127,5 +127,5 @@ impl Left {
 fn cells_in(grid: &Grid) -> u64
     ensures { result ≡ length grid.now.cells }
 {
-    grid.cells().len() as u64
+    grid.cells().len()
 }

@@ -1,6 +1,7 @@
 -- What the proofs of this crate share.
 pub mod LayLemmas
 pub mod LayingLemmas
+pub mod InkLemmas
 pub mod MaskLemmas
 pub mod CellLemmas
 pub mod PaintedLemmas

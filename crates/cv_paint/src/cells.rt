@@ -58,7 +58,7 @@ fn cell_in(cells: &Cells, column: u32, row: u32) -> Option<Cell>
 {
     let line = u64::from(cells.rows() - (row + 1));
     let at = line * u64::from(cells.cols()) + u64::from(column);
-    cells.cells().get(at).copied()
+    cells.cells().get(at)
 }
 
 /// The cell that holds a position, if the grid reaches there.

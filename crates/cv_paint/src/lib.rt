@@ -13,6 +13,7 @@ mod far;
 mod features;
 mod finish;
 mod hits;
+mod inks;
 mod layings;
 mod masks;
 mod painted;

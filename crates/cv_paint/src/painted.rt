@@ -1,25 +1,28 @@
 //! The pixels of a layer at a view.
 
-ghost use Rattle.std.specs.Prelude.{◌≡◌, ◌+◌, ◌≤◌, ◌++◌, OnOk, IfOk, IfErr};
+ghost use Rattle.std.specs.Prelude.{◌≡◌, ◌+◌, ◌≤◌, ◌++◌, OnOk, IfOk, IfErr, true};
 ghost use Rattle.std.specs.List.{flat_map};
 ghost use Rattle.cv_model.specs.Views.{centre_of};
-ghost use Rattle.cv_model.specs.Colours.{laid};
+ghost use Rattle.cv_model.specs.Colours.{laid, transparent};
 ghost use Rattle.cv_model.specs.Rasters.{pixels_of};
 ghost use Rattle.cv_model.specs.Pictures.{feature_strokes, pixel};
 ghost use Rattle.cv_layer.specs.Layers.{contents_seen};
 ghost use Rattle.cv_paint.specs.Finish.{masked, IsMaskOf, StopCause};
+ghost use Rattle.cv_paint.specs.Inks.{is_ink_of};
+ghost use Rattle.cv_paint.specs.Layings.{IsSized, TakesLayer};
 ghost use Rattle.cv_paint.specs.Masks.{IsMask, IsCoverOf};
 ghost use Rattle.cv_paint.specs.Costs.{contents_cost, features_cost, mask_cost, view_size, view_cost};
 
 use crate::error::PaintError;
 use crate::features::lay_table;
 use crate::finish::{put_cells, put_rows};
+use crate::inks::ink_of;
 use crate::layings::Workspace;
 use crate::masks::cover_table;
-use cv_canvas::{Cover, PixelCanvas};
+use cv_canvas::{Canvas, CountCanvas, Cover, OpaqueCanvas, PixelCanvas};
 use cv_geom::Steps;
 use cv_layer::{LayerContents, LayerInput, Table};
-use cv_model::{RgbaList, View};
+use cv_model::{Rgba, RgbaList, View};
 use cv_outside::Stop;
 use std::alloc::Global;
 use std::sync::ledger::Ledger;
@@ -71,6 +74,89 @@ fn mask_of<S: Stop, L: Ledger>(
     }
 }
 
+/// Puts the pixels of a text layer, as a mask shows them, behind others, row by row from the top, by a canvas
+/// on which nothing lies yet.
+fn paint_on<C: Canvas, S: Stop, L: Ledger>(
+    alloc: Global,
+    canvas: &mut C,
+    table: &Table,
+    input: &LayerInput,
+    mask: &Option<Cover>,
+    view: &View,
+    work: &mut Workspace,
+    stop: &mut S,
+    steps: &mut Steps<L>,
+    pixels: &mut RgbaList,
+) -> Result<(), PaintError>
+    requires size { IsSized view.now (C.frame canvas.old) }
+    requires ink { TakesLayer (C.frame canvas.old).ink input.now.parts }
+    requires clear { C.at canvas.old ≡ (λ i j. transparent) }
+    requires mask { IsMaskOf view.now mask.now }
+    ensures counts { S.yeses stop.old ≤ S.yeses stop.new }
+    ensures ok { OnOk result (pixels.new ≡ pixels.old ++ pixels_of view.now.w view.now.h (masked mask.now
+        (λ i j. laid (flat_map (feature_strokes input.now.parts view.now (centre_of view.now i j))
+        table.now.features)))) }
+    ensures err { IfErr result (λ e. StopCause e (S.yeses stop.old) (S.yeses stop.new)) }
+    ensures cost { steps.new ≤ steps.old + (features_cost view.now table.now.features + view_size view.now) }
+{
+    lay_table(canvas, table, input, view, work, stop, steps)?;
+    put_rows(alloc, &*canvas, mask, view, stop, steps, pixels)?;
+    Ok(())
+}
+
+/// The same, where all strokes have one colour.
+fn paint_ink<S: Stop, L: Ledger>(
+    alloc: Global,
+    ink: Rgba,
+    table: &Table,
+    input: &LayerInput,
+    mask: &Option<Cover>,
+    view: &View,
+    work: &mut Workspace,
+    stop: &mut S,
+    steps: &mut Steps<L>,
+    pixels: &mut RgbaList,
+) -> Result<(), PaintError>
+    requires ink { is_ink_of ink input.now.parts.own.style ≡ true }
+    requires mask { IsMaskOf view.now mask.now }
+    ensures counts { S.yeses stop.old ≤ S.yeses stop.new }
+    ensures ok { OnOk result (pixels.new ≡ pixels.old ++ pixels_of view.now.w view.now.h (masked mask.now
+        (λ i j. laid (flat_map (feature_strokes input.now.parts view.now (centre_of view.now i j))
+        table.now.features)))) }
+    ensures err { IfErr result (λ e. StopCause e (S.yeses stop.old) (S.yeses stop.new)) }
+    ensures cost { steps.new ≤ steps.old + (features_cost view.now table.now.features + view_size view.now) }
+{
+    if ink.a == 255 {
+        let mut canvas = OpaqueCanvas::new(alloc, view.w, view.h, ink)?;
+        paint_on(
+            alloc,
+            &mut canvas,
+            table,
+            input,
+            mask,
+            view,
+            work,
+            stop,
+            steps,
+            pixels,
+        )
+    } else {
+        let mut canvas = CountCanvas::new(alloc, view.w, view.h, ink)?;
+        paint_on(
+            alloc,
+            &mut canvas,
+            table,
+            input,
+            mask,
+            view,
+            work,
+            stop,
+            steps,
+            pixels,
+        )
+    }
+}
+
 /// Puts the pixels of a text layer, as a mask shows them, behind others, row by row from the top.
 fn paint_table<S: Stop, L: Ledger>(
     alloc: Global,
@@ -91,10 +177,27 @@ fn paint_table<S: Stop, L: Ledger>(
     ensures err { IfErr result (λ e. StopCause e (S.yeses stop.old) (S.yeses stop.new)) }
     ensures cost { steps.new ≤ steps.old + (features_cost view.now table.now.features + view_size view.now) }
 {
-    let mut canvas = PixelCanvas::new(alloc, view.w, view.h)?;
-    lay_table(&mut canvas, table, input, view, work, stop, steps)?;
-    put_rows(alloc, &canvas, mask, view, stop, steps, pixels)?;
-    Ok(())
+    let layer = input.layer();
+    match ink_of(layer.style()) {
+        Some(ink) => paint_ink(
+            alloc, ink, table, input, mask, view, work, stop, steps, pixels,
+        ),
+        None => {
+            let mut canvas = PixelCanvas::new(alloc, view.w, view.h)?;
+            paint_on(
+                alloc,
+                &mut canvas,
+                table,
+                input,
+                mask,
+                view,
+                work,
+                stop,
+                steps,
+                pixels,
+            )
+        }
+    }
 }
 
 /// Puts the pixels of a layer at a view behind others, row by row from the top.

@@ -2,6 +2,7 @@
 pub mod ReachLemmas
 pub mod RunLemmas
 pub mod MarkLemmas
+pub mod OrderLemmas
 pub mod CrossingLemmas
 pub mod PlaneLemmas
 pub mod HeldLemmas

@@ -7,8 +7,8 @@ use Rattle.std.proofs.lemmas.Bool.Decides.{nat_tests}
 use Rattle.std.proofs.lemmas.List.Sums.{sum_by-cons, sum_by-append}
 use Rattle.std.proofs.lemmas.List.Folds.{list_any-append}
 use Rattle.std.proofs.lemmas.List.Elements.{All-nil, All-cons, All-head, All-tail, All-append}
-use Rattle.std.proofs.lemmas.List.Sorted.{All-permutation, sum_by-IsPermutation, IsPermutation-trans, IsPermutation-reverse}
-use Rattle.std.proofs.lemmas.List.{get_or-reverse, length-reverse}
+use Rattle.std.proofs.lemmas.List.Sorted.{All-permutation, sum_by-IsPermutation}
+use Rattle.std.proofs.lemmas.List.{get_or-reverse}
 use Rattle.std.proofs.lemmas.Int.{ints}
 use Rattle.cv_geom.specs.Falls.{FallsIn}
 use Rattle.cv_geom.proofs.ProductLemmas.{mul-le-mulZ}
@@ -305,7 +305,7 @@ pairs-added area marks sorted old new within moved falls put = record {
 -- ---- the order of marks
 
 -- marks that don't ascend
-descends-each :
+pub descends-each :
     (a : Mark) (rest : List Mark)
     → ((k : ℕ) (d : Mark) → k + 1 < length (a ∷ rest) → IsBefore (get_or (a ∷ rest) (k + 1) d) (get_or (a ∷ rest) k d))
     → Descends a rest
@@ -340,7 +340,7 @@ not-behind a b not_less = rows (nat_lt b.row a.row) (b.row == a.row) refl refl
         columns false before = inr (grind (arith, nat_tests), grind (arith, nat_tests))
 
 -- marks that are sorted and then reversed descend
-reversed-each :
+pub reversed-each :
     (marks : List Mark) → IsSortedByKey place_of compared marks → (k : ℕ) (d : Mark) → k + 1 < length marks
     → IsBefore (get_or (reverse marks) (k + 1) d) (get_or (reverse marks) k d)
 reversed-each marks sorted k d less =
@@ -350,27 +350,6 @@ reversed-each marks sorted k d less =
     let next : length marks - 1 - k ≡ n + 1 = omega arith in
     let there = not-behind (get_or marks n d) (get_or marks (n + 1) d) (sorted n d (omega arith) (omega arith)) in
     rw (low, high ∙ ap (λ m. get_or marks m d) next) there
-
-descends-reversed :
-    (marks descending : List Mark) → descending ≡ reverse marks → IsSortedByKey place_of compared marks
-    → AreDescending descending
-descends-reversed marks [] is sorted = tt
-descends-reversed marks (a ∷ rest) is sorted =
-    descends-each a rest
-    (λ k d less.
-    let many : length (a ∷ rest) ≡ length marks = ap length is ∙ length-reverse marks in
-    rw is (reversed-each marks sorted k d (omega arith)))
-
--- so the runs between them are those of the marks in any order
-pub reversed-added :
-    (area : Area) (marks sorted descending : List Mark) (old new : List Run) → All (MarkIn area) marks
-    → IsPermutation marks sorted → IsSortedByKey place_of compared sorted → descending ≡ reverse sorted
-    → new ≡ old ++ runs_from area.columns.from None descending
-    → Adds (λ i j. marks_right i j marks % 2 == 1) area old new
-reversed-added area marks sorted descending old new within moved ascends is put =
-    pairs-added area marks descending old new within
-    (rw is (IsPermutation-trans marks sorted (reverse sorted) moved (IsPermutation-reverse sorted)))
-    (descends-reversed sorted descending is ascends) put
 
 -- ---- rows
 

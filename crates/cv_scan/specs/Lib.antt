@@ -2,6 +2,7 @@
 pub mod Reaches
 pub mod Runs
 pub mod Marks
+pub mod Orders
 pub mod Fills
 pub mod Planes
 pub mod Held

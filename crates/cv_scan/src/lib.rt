@@ -13,6 +13,7 @@ mod crossings;
 mod fills;
 mod held;
 mod marks;
+mod orders;
 mod planes;
 mod reaches;
 mod row;

@@ -13,6 +13,7 @@ ghost use Rattle.cv_scan.specs.Terms.{IsSlope};
 
 use crate::crossings::{columns_between, row_of};
 use crate::held::put_mark;
+use crate::orders::bring_down;
 use crate::scratch::Scratch;
 use crate::terms::{Place, Slope, column_at, long_slope, next_place};
 use cv_geom::{Area, Multiples, Run, Runs, Steps};
@@ -185,14 +186,13 @@ fn put_rows<L: Ledger>(
     Ok(())
 }
 
-/// Puts the runs that lie left of an odd number of marks behind others, by sorting them.
+/// Puts the runs that lie left of an odd number of marks behind others, by bringing them into order.
 pub fn put_sorted_runs(marks: &mut Vec<Mark>, area: Area, into: &mut Runs) -> Result<(), NoMemory>
     requires { All (MarkIn area) marks.old.items }
     ensures { OnOk result
         (Adds (λ i j. marks_right i j marks.old.items % 2 == 1) area into.old into.new) }
 {
-    marks.sort_unstable_by_key(|mark| (mark.row, mark.column));
-    marks.reverse();
+    bring_down(marks);
     put_pairs(marks, area.columns.from, into)?;
     Ok(())
 }

@@ -70,7 +70,7 @@ fn data_tally(given: &LayerData) -> Tally
             features: 0,
             vertices: 0,
             values: 0,
-            cells: grid.cells().len() as u64,
+            cells: grid.cells().len(),
         },
     }
 }

@@ -4,7 +4,7 @@ ghost use Rattle.std.specs.Prelude.{◌≡◌, ◌++◌, IfOk, OnOk};
 ghost use Rattle.cv_model.specs.Layers.{contents_of};
 
 use cv_layer::{Duplicate, NoMemory};
-use cv_model::{Cell, CellList, FeatureList, Grid, LayerData, Sequence};
+use cv_model::{FeatureList, Grid, LayerData, Sequence};
 use std::alloc::Global;
 
 /// Puts copies of these items behind those of a list. A refusal leaves some of them there.
@@ -30,17 +30,6 @@ fn copies<T: Duplicate + Drop>(alloc: Global, items: &[T]) -> Result<Sequence<T>
     Ok(made)
 }
 
-/// A list of these cells.
-fn cell_copies(alloc: Global, cells: &[Cell]) -> Result<CellList, NoMemory>
-    ensures { IfOk result (λ made. made ≡ cells.now) }
-{
-    let mut made = Sequence::with_room(alloc, cells.len() as u64)?;
-    for cell in cells {
-        made.put(*cell)?;
-    }
-    Ok(made)
-}
-
 /// The same columns and features, without the notes of a reader.
 fn list_copy(alloc: Global, list: &FeatureList) -> Result<FeatureList, NoMemory>
     ensures columns { IfOk result (λ made. made.columns ≡ list.now.columns) }
@@ -55,7 +44,7 @@ fn list_copy(alloc: Global, list: &FeatureList) -> Result<FeatureList, NoMemory>
 fn grid_copy(alloc: Global, grid: &Grid) -> Result<Grid, NoMemory>
     ensures { IfOk result (λ made. made ≡ grid.now) }
 {
-    let cells = cell_copies(alloc, grid.cells())?;
+    let cells = grid.cells().copy(alloc)?;
     Ok(Grid::of(
         grid.cols(),
         grid.rows(),

@@ -20,3 +20,6 @@ pub mod LimitLemmas
 pub mod RefusalLemmas
 -- there is one answer, and the machine gives it
 pub mod AnswerLemmas
+-- short decimals, and the points that they write
+pub mod ShortLemmas
+pub mod PointLemmas

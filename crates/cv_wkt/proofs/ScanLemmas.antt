@@ -16,6 +16,7 @@ use Rattle.cv_wkt.specs.Kind.{byte_kind, kind_of}
 use Rattle.cv_wkt.specs.Reader.{State, start, wkt_reader}
 use Rattle.cv_wkt.specs.Refusals.{wkt_watch, refusal, located, answer, taken_by, taken}
 use Rattle.cv_wkt.specs.Text.{len_by, front_len}
+use Rattle.cv_wkt.specs.Short.{answer_from}
 
 -- ---- the tokens of a rest
 
@@ -99,10 +100,6 @@ answer_refusal end t ts s f e =
     (wkt_watch.cause s t.bytes) (wkt_watch.limit s t.bytes) (wkt_reader.step s t.bytes) f e
 
 -- ---- the loop
-
--- the answer to the text from the offset on, behind the state
-abbrev pub answer_from : List ℕ → ℕ → State → Result GeometryLists WktError
-answer_from text at s = answer (length text) (cut byte_kind at (drop at text)) s
 
 -- white space changes nothing
 pub from_white : (text : List ℕ) (at : ℕ) (s : State) → at < length text → front_len (drop at text) ≡ 0

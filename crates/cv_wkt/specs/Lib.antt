@@ -7,3 +7,4 @@ pub mod Stack
 pub mod Text
 pub mod Refusals
 pub mod Leftmost
+pub mod Short

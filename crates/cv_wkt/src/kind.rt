@@ -1,11 +1,15 @@
 //! The kinds of tokens.
 
-ghost use Rattle.std.specs.Prelude.{◌≡◌, map};
+ghost use Rattle.std.specs.Prelude.{◌≡◌, map, Some, IfSome};
 ghost use Rattle.cv_wkt.specs.Kind.{is_sign, is_tag, tag_in, named, found_in, geometry_kind, keyword_kind};
 ghost use Rattle.cv_wkt.specs.Kind.{word_kind, kind_of, IsKindInRange};
 ghost use Rattle.std.specs.Char.{is_ascii_digit};
 ghost use Rattle.std.specs.List.{list_all};
+ghost use Rattle.cv_model.specs.Positions.{IsCoordinate};
+ghost use Rattle.cv_number.specs.Reader.{decimal_of};
+ghost use Rattle.cv_number.specs.declared.fixed.Fixed.TheVariants.{Value};
 
+use crate::short::coordinate;
 use cv_decimal::Fixed;
 
 /// The words of geometries.
@@ -186,12 +190,24 @@ fn is_digits(bytes: &[u8]) -> bool
     bytes.iter().all(|byte| byte.is_ascii_digit())
 }
 
+/// The value of a token that is a coordinate as most are written; any other may be one too.
+fn short_value(bytes: &[u8]) -> Option<i64>
+    ensures value { IfSome result (λ z. decimal_of bytes.now ≡ Some (Value z)) }
+    ensures range { IfSome result IsCoordinate }
+{
+    let spelt = coordinate(bytes)?;
+    (spelt.len == bytes.len()).then_some(spelt.millionths)
+}
+
 /// The kind of a token, given by its bytes.
 #[tactic(auto, unfolding(crate::specs::Kind::kind_of))]
 pub fn classify(bytes: &[u8]) -> Kind
     ensures kind { result ≡ kind_of bytes.now }
     ensures range { IsKindInRange result }
 {
+    if let Some(value) = short_value(bytes) {
+        return Kind::Number(Fixed::Value(value), is_digits(bytes));
+    }
     match cv_decimal::read(bytes) {
         Ok(value) => Kind::Number(value, is_digits(bytes)),
         Err(_) => word_kind(bytes),

@@ -17,6 +17,7 @@ mod laws;
 mod pieces;
 mod place;
 mod reader;
+mod short;
 mod stack;
 mod text;
 

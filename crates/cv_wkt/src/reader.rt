@@ -1,15 +1,17 @@
 //! The state between two tokens.
 
-ghost use Rattle.std.specs.Prelude.{◌≡◌, ◌<◌, ◌≢◌, Bool, true, None, Ok, Err, OnOk, IfOk, IfErr};
+ghost use Rattle.std.specs.Prelude.{◌≡◌, ◌<◌, ◌≤◌, ◌≢◌, Bool, true, length, None, Ok, Err, OnOk, IfOk, IfErr};
 ghost use Rattle.cv_model.specs.Positions.{IsCoordinate};
 ghost use Rattle.cv_wkt.specs.Reader.{State, start, IsState, Stepped, opened, left_out, with_x, with_y};
 ghost use Rattle.cv_wkt.specs.Reader.{behind_item, stepped};
 ghost use Rattle.cv_wkt.specs.Kind.{IsKindInRange};
+ghost use Rattle.cv_wkt.specs.Short.{IsAtPoint, with_pair, PointsAlong};
 ghost use Rattle.cv_wkt.specs.Refusals.{limit_of, if_deep, if_full, taken, finished};
 
 use crate::kind::{Kind, Word};
 use crate::pieces::Pieces;
 use crate::place::{Cause, Frame, Now, Sort};
+use crate::short::first_pair;
 use crate::stack::Stack;
 use cv_decimal::Fixed;
 use cv_model::{Geometry, NoMemory, Point, WktError};
@@ -349,6 +351,54 @@ impl Reader {
             Ok(false) => Err(before.cause(kind).at(at)),
             Err(_) => Err(WktError::NoMemory),
         }
+    }
+
+    /// Whether the next point of a line or a ring is expected.
+    fn is_at_point(&self) -> bool
+        ensures { result ≡ true → IsAtPoint self.now }
+    {
+        match self.next {
+            Now::Begin(Sort::Ordinates) => matches!(
+                self.frames.top(),
+                Some(Frame::LinePoints) | Some(Frame::RingPoints)
+            ),
+            _ => false,
+        }
+    }
+
+    /// Takes a point of a line or a ring, and the comma behind it.
+    fn put_pair(&mut self, x: i64, y: i64) -> Result<(), NoMemory>
+        requires x_in { IsCoordinate x }
+        requires y_in { IsCoordinate y }
+        requires few { self.old.vertices < 1000000 }
+        ensures { OnOk result (self.new ≡ with_pair x y self.old) }
+    {
+        self.pieces.add(Frame::LinePoints, Point { x, y })?;
+        self.x = x;
+        self.vertices += 1;
+        Ok(())
+    }
+
+    /// Takes the points of a line or a ring from an offset on, as far as they are written as most are.
+    /// Answers where it stopped.
+    pub fn take_points(&mut self, text: &[u8], start: usize) -> Result<usize, NoMemory>
+        requires { start ≤ length text.now }
+        ensures { IfOk result (λ at. PointsAlong text.now start self.old at self.new) }
+    {
+        if !self.is_at_point() {
+            return Ok(start);
+        }
+        let mut at = start;
+        while self.vertices < 1_000_000 {
+            match first_pair(text.split_at(at).1) {
+                Some(pair) => {
+                    self.put_pair(pair.x, pair.y)?;
+                    at += pair.len;
+                }
+                None => return Ok(at),
+            }
+        }
+        Ok(at)
     }
 
     /// The answer where the text ends.

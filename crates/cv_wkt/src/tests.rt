@@ -60,6 +60,10 @@ fn worked_texts_are_read(rt: HostRuntime) {
         ("LINESTRING M(1 2,3 4 5,6 7 8 9)", (0, 1, 3, 0, 0, 0)),
         ("LINESTRING EMPTY", (0, 0, 0, 0, 0, 0)),
         (
+            "LINESTRING(1 2,3 4 5,6  7,8 9 ,1 2, 3 4,1e0 2,3 4)",
+            (0, 1, 8, 0, 0, 0),
+        ),
+        (
             "PolygonZ ((0 0 1, 4 0 1, 4 4 1, 0 0 1))",
             (0, 0, 0, 1, 1, 4),
         ),
@@ -230,5 +234,40 @@ fn members_come_in_reading_order(rt: HostRuntime) {
         "GEOMETRYCOLLECTION(POINT(1 2),GEOMETRYCOLLECTION(POINT(3 4)),MULTIPOINT(5 6 7,(8 9)))";
     for (at, want) in [(1, 2), (3, 4), (5, 6), (8, 9)].iter().enumerate() {
         assert_eq!(rt; point_at(rt.alloc(), text.as_bytes(), at), Some(*want));
+    }
+}
+
+/// The first point of the first line of a text.
+fn first_of_line(alloc: Global, text: &[u8]) -> Option<(i64, i64)> {
+    let Ok(geometry) = read(alloc, text) else {
+        return None;
+    };
+    let line = geometry.lines().first()?;
+    let point = line.get(0)?;
+    Some((point.x, point.y))
+}
+
+#[test]
+fn coordinates_of_lines_are_read(rt: HostRuntime) {
+    let cases = [
+        ("LINESTRING(12.5 -0.125,0 0)", (12_500_000, -125_000)),
+        ("LINESTRING(-7 8.,0 0)", (-7_000_000, 8_000_000)),
+        (
+            "LINESTRING(999999999.999999 -999999999.999999,0 0)",
+            (999_999_999_999_999, -999_999_999_999_999),
+        ),
+        (
+            "LINESTRING(1000000000 0000000001,0 0)",
+            (1_000_000_000_000_000, 1_000_000),
+        ),
+        ("LINESTRING(0.1234565 -0.0000004,0 0)", (123_457, 0)),
+        ("LINESTRING(.5 +2e1,0 0)", (500_000, 20_000_000)),
+    ];
+    for (text, want) in cases {
+        assert_eq!(rt;
+            first_of_line(rt.alloc(), text.as_bytes()),
+            Some(want),
+            "at {text}"
+        );
     }
 }

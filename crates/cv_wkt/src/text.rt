@@ -72,13 +72,21 @@ pub fn scan(alloc: Global, text: &[u8]) -> Result<Geometry, WktError>
     let mut reader = Reader::new(alloc);
     let mut at = 0;
     while at < text.len() {
-        let rest = rest(text, at);
-        let len = token_len(rest);
-        if len == 0 {
-            at += 1;
+        let next = match reader.take_points(text, at) {
+            Ok(next) => next,
+            Err(_) => return Err(WktError::NoMemory),
+        };
+        if next > at {
+            at = next;
         } else {
-            reader.take(alloc, classify(front(rest, len)), at as u64)?;
-            at += len;
+            let rest = rest(text, at);
+            let len = token_len(rest);
+            if len == 0 {
+                at += 1;
+            } else {
+                reader.take(alloc, classify(front(rest, len)), at as u64)?;
+                at += len;
+            }
         }
     }
     reader.finish(at as u64)

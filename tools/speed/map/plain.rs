@@ -4,14 +4,22 @@
 //! number of its mode. Prints a line for reading, painting and composing: the microseconds, and the sum of
 //! the picture.
 //!
-//! It takes the form of all files for granted: a header, and in each line one POLYGON as the first field.
+//! Each file is read as any delimited text with the column `wkt`, with all tests of the product's readers
+//! (`../text`). Of each feature the polygons are painted.
 use std::time::Instant;
 
+#[path = "../text/decimal.rs"]
+mod decimal;
 #[path = "../compose/planes.rs"]
 mod planes;
+#[path = "../text/table.rs"]
+#[allow(dead_code)] // the other texts are read, and not painted
+mod table;
+#[path = "../text/wkt.rs"]
+mod wkt;
 use planes::{Rgb, Rgba, Slot, compose};
-
-type Point = (i64, i64);
+use table::{Feature, Table};
+use wkt::Point;
 
 struct View {
     width: usize,
@@ -24,57 +32,15 @@ struct View {
 
 // Reading
 
-/// The doubled millionths of a decimal of at most six places, and what stands behind it.
-fn decimal(text: &[u8]) -> (i64, &[u8]) {
-    let (negative, mut rest) = match text.split_first() {
-        Some((b'-', rest)) => (true, rest),
-        _ => (false, text),
-    };
-    let (mut number, mut places, mut point) = (0i64, 0, false);
-    while let Some((byte, behind)) = rest.split_first() {
-        match byte {
-            b'0'..=b'9' => {
-                number = 10 * number + i64::from(byte - b'0');
-                places += i32::from(point);
-            }
-            b'.' => point = true,
-            _ => break,
-        }
-        rest = behind;
-    }
-    let doubled = 2 * number * 10i64.pow((6 - places) as u32);
-    (if negative { -doubled } else { doubled }, rest)
-}
-
-fn ring(mut text: &[u8]) -> (Vec<Point>, &[u8]) {
-    let mut points = Vec::new();
-    loop {
-        let (x, rest) = decimal(&text[1..]);
-        let (y, rest) = decimal(&rest[1..]);
-        points.push((x, y));
-        text = rest;
-        if text[0] == b')' {
-            return (points, &text[1..]);
-        }
-    }
-}
-
-fn polygon(line: &[u8]) -> Vec<Vec<Point>> {
-    let open = line.iter().position(|byte| *byte == b'(').unwrap();
-    let mut text = &line[open + 1..];
-    let mut rings = Vec::new();
-    while text[0] == b'(' {
-        let (points, rest) = ring(text);
-        rings.push(points);
-        text = if rest[0] == b',' { &rest[1..] } else { rest };
-    }
-    rings
-}
-
+/// The rings of each feature's polygons, which are painted as one polygon.
 fn read(file: &str) -> Vec<Vec<Vec<Point>>> {
     let text = std::fs::read(file).unwrap();
-    let lines = text.split(|byte| *byte == b'\n');
-    lines.skip(1).filter(|line| !line.is_empty()).map(polygon).collect()
+    let table = Table::read(&text, "wkt").unwrap();
+    let rings = |feature: Feature| {
+        let polygons = feature.geometry.unwrap_or_default().polygons;
+        polygons.into_iter().flatten().collect()
+    };
+    table.features.into_iter().map(rings).collect()
 }
 
 // Painting
@@ -82,6 +48,11 @@ fn read(file: &str) -> Vec<Vec<Vec<Point>>> {
 /// The first row or column whose centre isn't before a place, so many sides from the first centre.
 fn first_at(distance: i64, side: i64, most: usize) -> usize {
     (distance + side - 1).div_euclid(side).clamp(0, most as i64) as usize
+}
+
+/// A point in doubled millionths.
+fn doubled(point: Point) -> Point {
+    (2 * point.0, 2 * point.1)
 }
 
 /// Marks the first column that isn't left of an edge, in each row that it crosses.
@@ -175,10 +146,10 @@ fn paint(features: &[Vec<Vec<Point>>], fill: Rgba, view: &View) -> Vec<Rgba> {
     for rings in features {
         marks.clear();
         for ring in rings {
-            let mut before = ring[ring.len() - 1];
-            for point in ring {
-                mark_edge(before, *point, view, &mut marks);
-                before = *point;
+            let mut before = doubled(ring[ring.len() - 1]);
+            for point in ring.iter().map(|point| doubled(*point)) {
+                mark_edge(before, point, view, &mut marks);
+                before = point;
             }
         }
         marks.sort_unstable();

@@ -3,7 +3,7 @@ use Rattle.std.specs.List.{flat_map}
 use Rattle.cv_model.specs.declared.colour.Rgba.{Rgba}
 use Rattle.cv_model.specs.Pictures.{feature_strokes}
 use Rattle.cv_paint.proofs.PaintedLemmas.{laid_pixels}
-use Rattle.cv_paint.proofs.painted.paint_table.Goals as goal
+use Rattle.cv_paint.proofs.painted.paint_on.Goals as goal
 
 pub returns-clause-ok : goal.returns-clause-ok
 returns-clause-ok g c =
@@ -11,4 +11,4 @@ returns-clause-ok g c =
     ∙ ap (λ (ps : List Rgba). c.args.pixels.now ++ ps)
     (laid_pixels c.args.view.now c.args.mask.now _ _
     (λ p. flat_map (feature_strokes c.args.input.now.parts c.args.view.now p) c.args.table.now.features)
-    c.in_ok-canvas.ensures.clear c.in_ok-lay_table.ensures.laid)
+    c.requires.clear c.in_ok-lay_table.ensures.laid)

@@ -1,0 +1,97 @@
+//! A canvas that takes one opaque colour.
+
+ghost use Rattle.std.specs.Prelude.{◌≡◌, IfOk, map, length};
+ghost use Rattle.cv_model.specs.Colours.{transparent};
+ghost use Rattle.cv_canvas.specs.Opaque.{inked};
+
+use crate::canvas::Canvas;
+use crate::cover::Cover;
+use cv_geom::Run;
+use cv_model::{NoMemory, Rgba};
+use std::alloc::Global;
+use std::marker::Model;
+
+/// A pixel on which nothing lies.
+const CLEAR: Rgba = Rgba {
+    r: 0,
+    g: 0,
+    b: 0,
+    a: 0,
+};
+
+/// A canvas that takes one opaque colour, and keeps of each pixel whether the colour lies there.
+#[derive(Drop)]
+pub struct OpaqueCanvas {
+    colour: Rgba,
+    cover: Cover,
+}
+
+impl Model for OpaqueCanvas {
+    ghost use Rattle.std.specs.Prelude.{◌≡◌};
+    ghost use Rattle.cv_canvas.specs.Opaque.{Inked};
+
+    ghost Value = { Inked };
+
+    ghost view = { λ c. record { colour = c.colour; cover = c.cover } };
+
+    ghost invariant = { λ c. c.colour.a ≡ 255 };
+}
+
+impl OpaqueCanvas {
+    ghost use Rattle.cv_canvas.specs.Opaque.{inked_in};
+
+    /// A canvas of this size on which nothing lies.
+    pub fn new(
+        alloc: Global,
+        width: u32,
+        height: u32,
+        colour: Rgba,
+    ) -> Result<OpaqueCanvas, NoMemory>
+        requires { colour.a ≡ 255 }
+        ensures width { IfOk result (λ made. made.cover.width ≡ width) }
+        ensures height { IfOk result (λ made. made.cover.height ≡ height) }
+        ensures colour { IfOk result (λ made. made.colour ≡ colour) }
+        ensures clear { IfOk result (λ made. inked_in made ≡ (λ i j. transparent)) }
+    {
+        let cover = Cover::new(alloc, width, height)?;
+        Ok(OpaqueCanvas { colour, cover })
+    }
+}
+
+impl Canvas for OpaqueCanvas {
+    ghost use Rattle.std.specs.Prelude.{Some};
+    ghost use Rattle.cv_canvas.specs.Opaque.{inked_in};
+
+    ghost frame = { λ canvas. record {
+      width = canvas.cover.width;
+      height = canvas.cover.height;
+      ink = Some canvas.colour;
+    } };
+
+    ghost at = { inked_in };
+
+    fn lay(&mut self, run: Run, _colour: Rgba) {
+        self.cover.cover(run);
+    }
+
+    fn row(&self, row: u32, into: &mut [Rgba]) {
+        ink(self.colour, self.cover.row(row), into);
+    }
+}
+
+/// Puts a colour where it lies, and a clear one elsewhere, into a list in place of what it held.
+fn ink(colour: Rgba, is_covered: &[bool], into: &mut [Rgba])
+    requires { length into.old ≡ length is_covered.now }
+    ensures { into.new ≡ map (inked colour) is_covered.now }
+{
+    for i in 0..into.len() {
+        into[i] = inked(colour, is_covered[i]);
+    }
+}
+
+/// A colour where it lies, else a clear one.
+fn inked(colour: Rgba, is_covered: bool) -> Rgba
+    ensures { result ≡ inked colour is_covered }
+{
+    if is_covered { colour } else { CLEAR }
+}

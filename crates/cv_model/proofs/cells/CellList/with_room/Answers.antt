@@ -1,0 +1,8 @@
+-- No numbers are no cells.
+use Rattle.std.proofs.Common.{refl}
+use Rattle.cv_model.specs.Packed.{unpacked}
+use Rattle.cv_model.proofs.cells.CellList.with_room.Goals as goal
+
+pub returns : goal.returns
+unfolding unpacked
+returns c = rw c.in_ok-words.ensures.items refl
