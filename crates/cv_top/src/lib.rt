@@ -26,6 +26,8 @@ pub use top::{run, run_once, run_surely};
 #[cfg(test)]
 mod check_tests;
 #[cfg(test)]
+mod device_tests;
+#[cfg(test)]
 mod paint_tests;
 #[cfg(test)]
 mod session_tests;
