@@ -84,7 +84,7 @@ place_behind : {A : Type 0} (f : A → A) (a e : ℕ) (xs : List A) (k : ℕ) (d
 place_behind f a e xs k d order within behind = grind (arith, places, length-map)
 
 -- what stands at a place after the part from a to e has changed
-part_place : {A : Type 0} (f : A → A) (a e : ℕ) (xs : List A) (k : ℕ) (d : A) → a ≤ e → e ≤ length xs
+pub part_place : {A : Type 0} (f : A → A) (a e : ℕ) (xs : List A) (k : ℕ) (d : A) → a ≤ e → e ≤ length xs
     → get_or (put_mid a (e - a) xs (map f (between a e xs))) k d
     ≡ (if nat_le a k && nat_lt k e then f (get_or xs k d) else get_or xs k d)
 part_place f a e xs k d order within =
@@ -101,21 +101,15 @@ part_place f a e xs k d order within =
     (cases_lt k a)
 
 -- a run of a raster has changed at a place
-changed_at : {A : Type 0} (f : A → A) (outside : A) (w h : ℕ) (xs : List A) (run : Run) (i j : ℕ)
-    → length xs ≡ w * h → IsWithin w h run
-    → item_in outside w (put_mid (run.row * w + run.from) ((run.row * w + run.end) - (run.row * w + run.from)) xs
-    (map f (between (run.row * w + run.from) (run.row * w + run.end) xs))) i j
-    ≡ changed f (item_in outside w xs) run i j
-changed_at f outside w h xs run i j whole inside =
-    let order : run.from ≤ run.end = inside.order in
-    let end_in : run.end ≤ w = inside.end_in in
-    let last : run.row * w + run.end ≤ w * h = end_within w h run inside in
-    let ordered : run.row * w + run.from ≤ run.row * w + run.end = omega arith in
-    let within : run.row * w + run.end ≤ length xs = omega arith in
+changed_at : {A : Type 0} (f : A → A) (outside : A) (w : ℕ) (xs ys : List A) (run : Run) (i j : ℕ) → run.end ≤ w
+    → ((k : ℕ) → get_or ys k outside
+    ≡ (if nat_le (run.row * w + run.from) k && nat_lt k (run.row * w + run.end) then f (get_or xs k outside) else get_or xs k outside))
+    → item_in outside w ys i j ≡ changed f (item_in outside w xs) run i j
+changed_at f outside w xs ys run i j end_in told =
     ⊎_elim (λ column.
     let t : nat_lt i w ≡ true = grind (arith, nat_tests) in
     simp t
-    (part_place f (run.row * w + run.from) (run.row * w + run.end) xs (j * w + i) outside ordered within
+    (told (j * w + i)
     ∙ ap (λ (on : Bool). if on then f (get_or xs (j * w + i) outside) else get_or xs (j * w + i) outside)
     (in_row w run.row run.from run.end j i column end_in)))
     (λ beyond.
@@ -123,14 +117,28 @@ changed_at f outside w h xs run i j whole inside =
     let off : is_on run i j ≡ false = grind (arith, nat_tests) in simp (t, off) refl)
     (cases_lt i w)
 
--- a run of a raster has changed
-pub changed_by : {A : Type 0} (f : A → A) (outside : A) (w h : ℕ) (xs : List A) (run : Run) → length xs ≡ w * h
+-- a run of a raster has changed, where each place of the run has
+pub changed_where : {A : Type 0} (f : A → A) (outside : A) (w : ℕ) (xs ys : List A) (run : Run) → run.end ≤ w
+    → ((k : ℕ) → get_or ys k outside
+    ≡ (if nat_le (run.row * w + run.from) k && nat_lt k (run.row * w + run.end) then f (get_or xs k outside) else get_or xs k outside))
+    → item_in outside w ys ≡ changed f (item_in outside w xs) run
+changed_where f outside w xs ys run end_in told =
+    fun_ext (λ i. fun_ext (λ j. changed_at f outside w xs ys run i j end_in told))
+
+-- a run of a raster has changed, where its part of the list has
+changed_by : {A : Type 0} (f : A → A) (outside : A) (w h : ℕ) (xs : List A) (run : Run) → length xs ≡ w * h
     → IsWithin w h run
     → item_in outside w (put_mid (run.row * w + run.from) ((run.row * w + run.end) - (run.row * w + run.from)) xs
     (map f (between (run.row * w + run.from) (run.row * w + run.end) xs)))
     ≡ changed f (item_in outside w xs) run
 changed_by f outside w h xs run whole inside =
-    fun_ext (λ i. fun_ext (λ j. changed_at f outside w h xs run i j whole inside))
+    let order : run.from ≤ run.end = inside.order in
+    let end_in : run.end ≤ w = inside.end_in in
+    let last : run.row * w + run.end ≤ w * h = end_within w h run inside in
+    let ordered : run.row * w + run.from ≤ run.row * w + run.end = omega arith in
+    let within : run.row * w + run.end ≤ length xs = omega arith in
+    changed_where f outside w xs _ run end_in
+    (λ k. part_place f (run.row * w + run.from) (run.row * w + run.end) xs k outside ordered within)
 
 -- a part that has changed is as long as it was
 part_long : {A : Type 0} (f : A → A) (a e : ℕ) (xs : List A) → a ≤ e → e ≤ length xs

@@ -8,6 +8,14 @@ ghost use Rattle.cv_canvas.specs.Canvas.{CanvasFrame, LiesOn, IsInk, with_run};
 use cv_geom::Run;
 use cv_model::Rgba;
 
+/// A pixel on which nothing lies.
+pub const CLEAR: Rgba = Rgba {
+    r: 0,
+    g: 0,
+    b: 0,
+    a: 0,
+};
+
 /// A raster of pixels on which runs of colours are laid, each over what lies there.
 pub trait Canvas {
     /// Its size in pixels, and the one colour that it takes, if it takes one alone.

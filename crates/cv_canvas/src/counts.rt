@@ -4,20 +4,12 @@ ghost use Rattle.std.specs.Prelude.{◌≡◌, ◌<◌, IfOk, map, length};
 ghost use Rattle.cv_model.specs.Colours.{transparent};
 ghost use Rattle.cv_canvas.specs.Counts.{IsTable, laid_times, once_more};
 
-use crate::canvas::Canvas;
+use crate::canvas::{CLEAR, Canvas};
 use cv_blend::over;
 use cv_geom::Run;
 use cv_model::{NoMemory, Rgba};
 use std::alloc::Global;
 use std::marker::Model;
-
-/// A pixel on which nothing lies.
-const CLEAR: Rgba = Rgba {
-    r: 0,
-    g: 0,
-    b: 0,
-    a: 0,
-};
 
 /// A canvas that takes one colour, and counts how often it lies on each pixel. From the 255th time on a
 /// colour over itself changes nothing, so that a count needs no more than a byte.

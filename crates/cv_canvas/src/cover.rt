@@ -1,9 +1,9 @@
 //! A raster that tells of each pixel whether it is covered.
 
-ghost use Rattle.std.specs.Prelude.{◌≡◌, ◌<◌, true, false, map, IfOk};
-ghost use Rattle.cv_model.specs.Rasters.{row_of};
+ghost use Rattle.std.specs.Prelude.{◌≡◌, ◌<◌, true, false, IfOk};
 ghost use Rattle.cv_canvas.specs.Canvas.{changed};
 
+use crate::bits::Bits;
 use cv_geom::Run;
 use cv_model::NoMemory;
 use std::alloc::Global;
@@ -14,7 +14,7 @@ use std::marker::Model;
 pub struct Cover {
     width: u32,
     height: u32,
-    covered: Vec<bool>,
+    covered: Bits,
 }
 
 impl Model for Cover {
@@ -23,10 +23,10 @@ impl Model for Cover {
 
     ghost Value = { Raster Bool };
 
-    ghost view = { λ c. record { width = c.width; height = c.height; pixels = c.covered.items } };
+    ghost view = { λ c. record { width = c.width; height = c.height; pixels = c.covered } };
 
     ghost invariant = { λ c. IsRaster {A = Bool}
-        (record { width = c.width; height = c.height; pixels = c.covered.items }) };
+        (record { width = c.width; height = c.height; pixels = c.covered }) };
 }
 
 impl Cover {
@@ -39,12 +39,19 @@ impl Cover {
         ensures height { IfOk result (λ made. made.height ≡ height) }
         ensures clear { IfOk result (λ made. is_covered_in made ≡ (λ i j. false)) }
     {
-        let covered = vec![in alloc; false; width as usize * height as usize]?;
+        let covered = Bits::new(alloc, width as usize * height as usize)?;
         Ok(Cover {
             width,
             height,
             covered,
         })
+    }
+
+    /// How many pixels a row has.
+    pub fn width(&self) -> u32
+        ensures { result ≡ self.now.width }
+    {
+        self.width
     }
 
     /// Covers the pixels of a run.
@@ -55,23 +62,17 @@ impl Cover {
         ensures covered { is_covered_in self.new ≡ changed (λ _. true) (is_covered_in self.old) run }
     {
         let start = run.row as usize * self.width as usize;
-        let (from, end) = (start + run.from as usize, start + run.end as usize);
-        cover_all(&mut self.covered[from..end]);
+        self.covered
+            .set(start + run.from as usize, start + run.end as usize);
     }
 
-    /// Which pixels of a row are covered.
-    pub fn row(&self, row: u32) -> &[bool]
-        requires { row < self.now.height }
-        ensures { result.now ≡ row_of self.now.width (is_covered_in self.now) row }
+    /// Whether the pixel in a column and a row is covered.
+    pub fn is_covered(&self, column: u32, row: u32) -> bool
+        requires column { column < self.now.width }
+        requires row { row < self.now.height }
+        ensures { result ≡ is_covered_in self.now column row }
     {
-        let start = row as usize * self.width as usize;
-        &self.covered[start..start + self.width as usize]
+        self.covered
+            .is_set(row as usize * self.width as usize + column as usize)
     }
-}
-
-/// Covers these pixels.
-fn cover_all(covered: &mut [bool])
-    ensures { covered.new ≡ map (λ _. true) covered.old }
-{
-    covered.fill(true);
 }

@@ -5,12 +5,14 @@
 //! `Colours` of `cv_model`. Takes memory when a canvas is made, and never afterwards; no handle.
 #![tactic(auto)]
 
+mod bits;
 mod canvas;
 mod counts;
 mod cover;
 mod mixing;
 mod opaque;
 mod pixels;
+mod reciprocals;
 
 pub use canvas::Canvas;
 pub use counts::CountCanvas;
@@ -19,5 +21,7 @@ pub use mixing::lay_on;
 pub use opaque::OpaqueCanvas;
 pub use pixels::PixelCanvas;
 
+#[cfg(test)]
+mod pixel_tests;
 #[cfg(test)]
 mod tests;

@@ -1,27 +1,52 @@
 //! A colour laid over many pixels, by cases of them all: as fast as what lies there allows.
 
-ghost use Rattle.std.specs.Prelude.{◌≡◌, ◌≤◌, nat_eq, map};
+ghost use Rattle.std.specs.Prelude.{◌≡◌, ◌≤◌, if◌then◌else◌, nat_eq, map};
 ghost use Rattle.std.specs.List.{list_all};
 ghost use Rattle.cv_number.specs.Rounding.{rnd};
 ghost use Rattle.cv_model.specs.Colours.{over};
 ghost use Rattle.cv_canvas.specs.Mixing.{byte_over, on_opaque, has_alpha};
 
-use cv_blend::over;
+use crate::reciprocals::Reciprocals;
 use cv_model::Rgba;
 
-/// Lays a colour over each of these pixels.
-#[tactic(auto, using(crate::proofs::MixingLemmas::lay_rules))]
+/// Lays a colour over each of these pixels. Takes no memory.
 pub fn lay_on(pixels: &mut [Rgba], colour: Rgba)
     ensures { pixels.new ≡ map (over colour) pixels.old }
 {
+    if !lay_evenly(pixels, colour) {
+        mix(pixels, colour, &mut Reciprocals::new(colour.a));
+    }
+}
+
+/// Lays a colour over each of these pixels, with reciprocals that are kept from one call to the next. Those
+/// found for the colour's alpha are used; where they were for another, they become those for the colour's.
+/// Takes no memory.
+pub fn lay_with(pixels: &mut [Rgba], colour: Rgba, reciprocals: &mut Reciprocals)
+    ensures { pixels.new ≡ map (over colour) pixels.old }
+{
+    if !lay_evenly(pixels, colour) {
+        reciprocals.set_alpha(colour.a);
+        mix(pixels, colour, reciprocals);
+    }
+}
+
+/// Lays a colour over each of these pixels, where it is opaque, or all of them are clear, or all opaque.
+/// Whether it did; else all are as they were.
+#[tactic(auto, using(crate::proofs::MixingLemmas::lay_rules))]
+fn lay_evenly(pixels: &mut [Rgba], colour: Rgba) -> bool
+    ensures { pixels.new ≡ (if result then map (over colour) pixels.old else pixels.old) }
+{
     if colour.a == 255 {
         pixels.fill(colour);
+        true
     } else if colour.a > 0 && all_have(pixels, 0) {
         pixels.fill(colour);
+        true
     } else if all_have(pixels, 255) {
         mix_opaque(pixels, colour);
+        true
     } else {
-        mix(pixels, colour);
+        false
     }
 }
 
@@ -36,12 +61,13 @@ fn all_have(pixels: &[Rgba], alpha: u8) -> bool
     have
 }
 
-/// Lays a colour over pixels of any alpha.
-fn mix(pixels: &mut [Rgba], colour: Rgba)
+/// Lays a colour over pixels of any alpha, with the reciprocals for its own.
+fn mix(pixels: &mut [Rgba], colour: Rgba, reciprocals: &mut Reciprocals)
+    requires { reciprocals.old ≡ colour.a }
     ensures { pixels.new ≡ map (over colour) pixels.old }
 {
     for pixel in pixels.iter_mut() {
-        *pixel = over(colour, *pixel);
+        *pixel = reciprocals.over(colour, *pixel);
     }
 }
 
@@ -75,7 +101,7 @@ fn byte_over(alpha: u8, source: u8, backdrop: u8) -> u8
 }
 
 /// A number divided by 255, to the nearest.
-fn by_255(n: u16) -> u16
+pub fn by_255(n: u16) -> u16
     requires { n ≤ 65025 }
     ensures value { result ≡ rnd n 255 }
     ensures small { result ≤ 255 }

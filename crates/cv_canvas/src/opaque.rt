@@ -1,23 +1,17 @@
 //! A canvas that takes one opaque colour.
 
-ghost use Rattle.std.specs.Prelude.{◌≡◌, IfOk, map, length};
+ghost use Rattle.std.specs.Prelude.{◌≡◌, ◌<◌, IfOk, map, length};
 ghost use Rattle.cv_model.specs.Colours.{transparent};
+ghost use Rattle.cv_model.specs.Rasters.{row_of};
+ghost use Rattle.cv_canvas.specs.Cover.{is_covered_in};
 ghost use Rattle.cv_canvas.specs.Opaque.{inked};
 
-use crate::canvas::Canvas;
+use crate::canvas::{CLEAR, Canvas};
 use crate::cover::Cover;
 use cv_geom::Run;
 use cv_model::{NoMemory, Rgba};
 use std::alloc::Global;
 use std::marker::Model;
-
-/// A pixel on which nothing lies.
-const CLEAR: Rgba = Rgba {
-    r: 0,
-    g: 0,
-    b: 0,
-    a: 0,
-};
 
 /// A canvas that takes one opaque colour, and keeps of each pixel whether the colour lies there.
 #[derive(Drop)]
@@ -75,17 +69,18 @@ impl Canvas for OpaqueCanvas {
     }
 
     fn row(&self, row: u32, into: &mut [Rgba]) {
-        ink(self.colour, self.cover.row(row), into);
+        ink(self.colour, &self.cover, row, into);
     }
 }
 
-/// Puts a colour where it lies, and a clear one elsewhere, into a list in place of what it held.
-fn ink(colour: Rgba, is_covered: &[bool], into: &mut [Rgba])
-    requires { length into.old ≡ length is_covered.now }
-    ensures { into.new ≡ map (inked colour) is_covered.now }
+/// Puts a colour where it lies in a row, and a clear one elsewhere, into a list in place of what it held.
+fn ink(colour: Rgba, cover: &Cover, row: u32, into: &mut [Rgba])
+    requires row { row < cover.now.height }
+    requires length { length into.old ≡ cover.now.width }
+    ensures { into.new ≡ map (inked colour) (row_of cover.now.width (is_covered_in cover.now) row) }
 {
-    for i in 0..into.len() {
-        into[i] = inked(colour, is_covered[i]);
+    for i in 0..cover.width() {
+        into[i as usize] = inked(colour, cover.is_covered(i, row));
     }
 }
 

@@ -3,20 +3,13 @@
 ghost use Rattle.std.specs.Prelude.{◌≡◌, IfOk};
 ghost use Rattle.cv_model.specs.Colours.{transparent};
 
-use crate::canvas::Canvas;
-use crate::mixing::lay_on;
+use crate::canvas::{CLEAR, Canvas};
+use crate::mixing::lay_with;
+use crate::reciprocals::Reciprocals;
 use cv_geom::Run;
 use cv_model::{NoMemory, Rgba};
 use std::alloc::Global;
 use std::marker::Model;
-
-/// A pixel on which nothing lies.
-const CLEAR: Rgba = Rgba {
-    r: 0,
-    g: 0,
-    b: 0,
-    a: 0,
-};
 
 /// A canvas that keeps each pixel, and takes any colours.
 #[derive(Drop)]
@@ -24,6 +17,8 @@ pub struct PixelCanvas {
     width: u32,
     height: u32,
     pixels: Vec<Rgba>,
+    /// For the alpha that was mixed last.
+    reciprocals: Reciprocals,
 }
 
 impl Model for PixelCanvas {
@@ -52,6 +47,7 @@ impl PixelCanvas {
             width,
             height,
             pixels,
+            reciprocals: Reciprocals::new(0),
         })
     }
 }
@@ -67,7 +63,7 @@ impl Canvas for PixelCanvas {
     fn lay(&mut self, run: Run, colour: Rgba) {
         let start = run.row as usize * self.width as usize;
         let (from, end) = (start + run.from as usize, start + run.end as usize);
-        lay_on(&mut self.pixels[from..end], colour);
+        lay_with(&mut self.pixels[from..end], colour, &mut self.reciprocals);
     }
 
     fn row(&self, row: u32, into: &mut [Rgba]) {

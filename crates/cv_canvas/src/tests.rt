@@ -1,5 +1,5 @@
 //! Worked rows of canvases that take one colour.
-use crate::{Canvas, CountCanvas, OpaqueCanvas};
+use crate::{Canvas, CountCanvas, Cover, OpaqueCanvas};
 use cv_geom::Run;
 use cv_model::Rgba;
 use std::test::Fail;
@@ -69,5 +69,21 @@ fn an_opaque_colour_covers(rt: HostRuntime) -> Result<(), Fail> {
     assert_eq!(rt; row[0], CLEAR);
     assert_eq!(rt; row[1], FULL);
     assert_eq!(rt; row[2], CLEAR);
+    Ok(())
+}
+
+#[test]
+fn a_run_over_three_words_is_covered(rt: HostRuntime) -> Result<(), Fail> {
+    let mut cover = Cover::new(rt.alloc(), 100, 2)?;
+    cover.cover(Run {
+        row: 1,
+        from: 20,
+        end: 100,
+    });
+    assert!(rt; !cover.is_covered(99, 0));
+    assert!(rt; !cover.is_covered(19, 1));
+    assert!(rt; cover.is_covered(20, 1));
+    assert!(rt; cover.is_covered(60, 1));
+    assert!(rt; cover.is_covered(99, 1));
     Ok(())
 }

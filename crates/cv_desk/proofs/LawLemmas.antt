@@ -21,7 +21,7 @@ use Rattle.cv_tables.specs.Rows.{Row, job_of, row_in}
 use Rattle.cv_tables.specs.Tabs.{Tab, PublishedJob, taken_in, canvas_of}
 use Rattle.cv_desk.specs.Desks.{History, state, IsPresent, IsWhole, IsCurrent, IsDesk}
 use Rattle.cv_desk.specs.Laws.{Call, IsCall, AreCalls, left_by, entries_of, CallsMakeHistory}
-use Rattle.cv_desk.specs.Laws.{present, IsOf, ShowsLast, ShowsCanvas, ShowsJob, DesksAreKnown}
+use Rattle.cv_desk.specs.Laws.{present, IsOf, ShowsLast, ShowsCanvas, ShowsJob, DesksAreKnown, AreDesks, ListsAreKnown}
 use Rattle.cv_desk.specs.Laws.{StampsTellInputs, StampsTellPresentInputs}
 use Rattle.cv_desk.proofs.SeenLemmas.{job_seen}
 use Rattle.cv_desk.proofs.KeepingLemmas.{legal_more, row_kept}
@@ -132,6 +132,15 @@ desks_are_known h kept = record {
   jobs = shows_job h kept;
   behind = kept.revised.store;
 }
+
+-- the desk that the last call leaves
+last_desk : (h : History) (calls : List Call) → IsDesk h → AreDesks calls → IsDesk (left_by h calls)
+last_desk h [] kept are = kept
+last_desk h (call ∷ calls) kept are = last_desk call.left calls are.0 are.1
+
+pub lists_are_known : ListsAreKnown
+lists_are_known opened calls fresh kept desks are =
+    (calls_make_history opened calls fresh are, desks_are_known (left_by opened calls) (last_desk opened calls kept desks))
 
 -- ---- stamps
 

@@ -38,6 +38,13 @@ StartAnswer s c (Err start_error.NoView) = IsSome (slice_get s.canvases c) × Is
 StartAnswer s c (Err start_error.TooManyJobs) = IsSome (view_on s c) × (length s.jobs ≡ 4294967295)
 StartAnswer s c (Err start_error.NoMemory) = Unit {0}
 
+-- a refused start leaves the desk as it was, but that want of memory may leave more places set aside
+abbrev pub StartLeaves : History → History → StartError → Type 0
+StartLeaves old new start_error.NoMemory = Stays old new
+StartLeaves old new start_error.UnknownCanvas = new ≡ old
+StartLeaves old new start_error.NoView = new ≡ old
+StartLeaves old new start_error.TooManyJobs = new ≡ old
+
 -- a view is of a canvas's size
 abbrev pub FitsCanvas : State → ℕ → PixelGrid → Type 0
 FitsCanvas s c view = IsSomeAnd (slice_get s.canvases c) (λ k. IsView view × (view.w ≡ k.spec.w) × (view.h ≡ k.spec.h))
@@ -49,6 +56,12 @@ ViewAnswer s c view (Err view_error.UnknownCanvas) = IsNone (slice_get s.canvase
 ViewAnswer s c view (Err view_error.Size) =
     IsSomeAnd (slice_get s.canvases c) (λ k. ((view.w == k.spec.w) && (view.h == k.spec.h)) ≡ false)
 ViewAnswer s c view (Err view_error.NoMemory) = Unit {0}
+
+-- and so does a refused view
+abbrev pub ViewLeaves : History → History → SetViewError → Type 0
+ViewLeaves old new view_error.NoMemory = Stays old new
+ViewLeaves old new view_error.UnknownCanvas = new ≡ old
+ViewLeaves old new view_error.Size = new ≡ old
 
 -- an end: of a job that is there and has none
 abbrev pub EndAnswer : State → ℕ → Result (Unit {0}) EndError → Type 0
@@ -63,6 +76,12 @@ PreviewAnswer h j (Err preview_error.UnknownJob) = IsNone (row_in h.tables.rows 
 PreviewAnswer h j (Err (preview_error.Ended e)) = IsSomeAnd (row_in h.tables.rows j) (λ row. row.ended ≡ Some e)
 PreviewAnswer h j (Err preview_error.NoMemory) = Unit {0}
 
+-- a refused preview leaves the desk as it was, but that want of memory may leave more places set aside
+abbrev pub PreviewLeaves : History → History → PreviewError → Type 0
+PreviewLeaves old new preview_error.NoMemory = Stays old new
+PreviewLeaves old new preview_error.UnknownJob = new ≡ old
+PreviewLeaves old new (preview_error.Ended e) = new ≡ old
+
 -- a picture: of all slots of the last job that was finished on the canvas
 abbrev pub SaveAnswer : History → ℕ → Result Composition SaveError → Type 0
 SaveAnswer h c (Ok image) =
@@ -71,11 +90,13 @@ SaveAnswer h c (Err save_error.UnknownCanvas) = IsNone (slice_get (state h).canv
 SaveAnswer h c (Err save_error.Nothing) = IsSomeAnd (slice_get (state h).canvases c) (λ k. k.published ≡ None)
 SaveAnswer h c (Err save_error.NoMemory) = Unit {0}
 
--- its entry names that job
+-- its entry names that job; a refusal leaves the desk as it was, but that want of memory may leave more places set
+-- aside
 abbrev pub SaveNotes : History → History → ℕ → ℕ → Result Composition SaveError → Type 0
 SaveNotes old new who c (Ok image) = IsSomeAnd (slice_get (state old).canvases c)
     (λ k. IsSomeAnd k.published (λ last. Notes old new who (act.Save c last.job)))
-SaveNotes old new who c (Err error) = Stays old new
+SaveNotes old new who c (Err save_error.NoMemory) = Stays old new
+SaveNotes old new who c (Err error) = new ≡ old
 
 -- an edit: as the verdict of the present project says; its place in the journal is set aside first, so that
 -- want of memory may come of an edit that would be refused

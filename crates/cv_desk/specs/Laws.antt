@@ -117,6 +117,18 @@ pub record IsKnown (h : History) : Type 0 where
 abbrev pub DesksAreKnown : Type 0
 DesksAreKnown = (h : History) → IsDesk h → IsKnown h
 
+-- each call leaves a desk, which every value of the desk's type is
+abbrev pub AreDesks : List Call → Type 0
+AreDesks calls = AllByRecursion (λ (call : Call). IsDesk call.left) calls
+
+-- after every list of calls, by any callers, from a desk as it is opened, the journal is the list of their entries and
+-- is legal, the state is the one after it, and each canvas and each job of the desk that the last leaves shows what the
+-- definitions name of that journal
+abbrev pub ListsAreKnown : Type 0
+ListsAreKnown =
+    (opened : History) (calls : List Call) → IsOpened opened → IsDesk opened → AreDesks calls → AreCalls opened calls
+    → IsHistory opened calls (left_by opened calls) × IsKnown (left_by opened calls)
+
 -- ---- stamps
 
 -- a layer that has equal stamps in two jobs of a desk has equal inputs there

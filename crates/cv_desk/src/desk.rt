@@ -13,7 +13,8 @@ ghost use Rattle.cv_event.specs.Legality.{OfJob, ready_bits, shows, fate_of};
 ghost use Rattle.cv_tables.specs.Rows.{Row, HasSlot, IsPaintingOf, job_of, owed, row_in, whole_of};
 ghost use Rattle.cv_desk.specs.Desks.{state, Notes, Stays};
 ghost use Rattle.cv_desk.specs.Laws.{IsKnown};
-ghost use Rattle.cv_desk.specs.Answers.{StartAnswer, ViewAnswer, FitsCanvas, EndAnswer};
+ghost use Rattle.cv_desk.specs.Answers.{StartAnswer, StartLeaves, ViewAnswer, ViewLeaves, FitsCanvas};
+ghost use Rattle.cv_desk.specs.Answers.{EndAnswer};
 
 use crate::errors::{EndError, SetViewError, StartError, UnknownJob};
 use cv_chunks::Shared;
@@ -165,10 +166,12 @@ impl Desk {
     }
 
     /// Gives a canvas a view of its size. Where that is no pan of the present one, its cache is emptied.
+    /// A refusal leaves the desk as it was; want of memory may leave more places set aside.
     pub fn set_view(&mut self, who: u32, canvas: u32, view: View) -> Result<(), SetViewError>
         ensures answer { ViewAnswer (state self.old) canvas view result }
         ensures ok { OnOk result (Notes self.old self.new who (act.View canvas view)) }
         ensures err { OnErr result (Stays self.old self.new) }
+        ensures left { IfErr result (ViewLeaves self.old self.new) }
     {
         let Some(row) = self.canvases.get(canvas) else {
             return Err(SetViewError::UnknownCanvas);
@@ -185,11 +188,13 @@ impl Desk {
     }
 
     /// Starts a job of the present project at a canvas's present view, and cancels the canvas's other jobs.
-    /// Answers its number.
+    /// Answers its number. A refusal leaves the desk as it was; want of memory may leave more places set
+    /// aside.
     pub fn start(&mut self, who: u32, canvas: u32) -> Result<u32, StartError>
         ensures answer { StartAnswer (state self.old) canvas result }
         ensures ok { IfOk result (λ job. Notes self.old self.new who (act.Start canvas job)) }
         ensures err { OnErr result (Stays self.old self.new) }
+        ensures left { IfErr result (StartLeaves self.old self.new) }
     {
         let Some(row) = self.canvases.get(canvas) else {
             return Err(StartError::UnknownCanvas);

@@ -1,7 +1,7 @@
 //! What holds of desks after every list of calls, each the clause of a call that does nothing.
 
-ghost use Rattle.cv_desk.specs.Laws.{CallsMakeHistory, DesksAreKnown, StampsTellInputs};
-ghost use Rattle.cv_desk.specs.Laws.{StampsTellPresentInputs};
+ghost use Rattle.cv_desk.specs.Laws.{CallsMakeHistory, DesksAreKnown, ListsAreKnown};
+ghost use Rattle.cv_desk.specs.Laws.{StampsTellInputs, StampsTellPresentInputs};
 
 /// After every list of calls, by any callers, that is made from a desk as it is opened, the journal is the
 /// list of the calls' entries, it is legal, and the desk's state is the one after it.
@@ -12,6 +12,13 @@ pub fn calls_make_history()
 /// A desk's journal is legal, and each cached layer, slot and published picture is what the definitions name.
 pub fn desks_are_known()
     ensures { DesksAreKnown }
+{}
+
+/// After every list of calls, by any callers, that is made from a desk as it is opened, the journal is the
+/// list of the calls' entries and is legal, and each cached layer, slot and published picture of the desk
+/// that the last call leaves is what the definitions name of that journal.
+pub fn lists_are_known()
+    ensures { ListsAreKnown }
 {}
 
 /// A layer that has equal stamps in two jobs of a desk is painted from the same there.

@@ -1,11 +1,11 @@
 //! Pictures: of a job before its end, and of the last that was finished on a canvas.
 
-ghost use Rattle.std.specs.Prelude.{◌≡◌, ◌≤◌, ◌+◌, slice_get, OnOk, OnErr, IsSomeAnd};
+ghost use Rattle.std.specs.Prelude.{◌≡◌, ◌≤◌, ◌+◌, slice_get, OnOk, OnErr, IfErr, IsSomeAnd};
 ghost use Rattle.cv_event.specs.declared.entry.Act.TheVariants as act;
 ghost use Rattle.cv_event.specs.Legality.{OfJob, ready_bits};
 ghost use Rattle.cv_tables.specs.Rows.{owed};
 ghost use Rattle.cv_desk.specs.Desks.{state, Notes, Stays};
-ghost use Rattle.cv_desk.specs.Answers.{PreviewAnswer, SaveAnswer, SaveNotes};
+ghost use Rattle.cv_desk.specs.Answers.{PreviewAnswer, PreviewLeaves, SaveAnswer, SaveNotes};
 
 use crate::desk::Desk;
 use crate::errors::{PreviewError, SaveError};
@@ -14,12 +14,14 @@ use cv_compose::{ComposeInput, Composed};
 use cv_event::{Act, Entry};
 
 impl Desk {
-    /// What the picture of a job's ready slots is composed of.
+    /// What the picture of a job's ready slots is composed of. A refusal leaves the desk as it was; want of
+    /// memory may leave more places set aside.
     pub fn preview(&mut self, who: u32, job: u32) -> Result<ComposeInput, PreviewError>
         ensures answer { PreviewAnswer self.old job result }
         ensures ok { OnOk result (OfJob (state self.old) job
             (λ j. Notes self.old self.new who (act.Preview job (ready_bits j.slots)))) }
         ensures err { OnErr result (Stays self.old self.new) }
+        ensures left { IfErr result (PreviewLeaves self.old self.new) }
     {
         let Some(row) = self.jobs.get(job) else {
             return Err(PreviewError::UnknownJob);
@@ -53,10 +55,12 @@ impl Desk {
         });
     }
 
-    /// The picture of the last job that was finished on a canvas.
+    /// The picture of the last job that was finished on a canvas. A refusal leaves the desk as it was; want
+    /// of memory may leave more places set aside.
     pub fn published(&mut self, who: u32, canvas: u32) -> Result<Shared<Composed>, SaveError>
         ensures answer { SaveAnswer self.old canvas result }
         ensures entry { SaveNotes self.old self.new who canvas result }
+        ensures err { OnErr result (Stays self.old self.new) }
     {
         let Some(row) = self.canvases.get(canvas) else {
             return Err(SaveError::UnknownCanvas);

@@ -26,6 +26,7 @@ use Rattle.cv_tables.specs.Rows.{Row, HasSlot, job_of, row_in, painting_from, pa
 use Rattle.cv_desk.specs.Desks.{History, state, Basis, basis_of, Notes, Stays}
 use Rattle.cv_desk.specs.Answers.{IsPiece, EditNotes, SaveNotes, ClaimNotes}
 use Rattle.cv_desk.specs.declared.errors.SaveError.{SaveError}
+use Rattle.cv_desk.specs.declared.errors.SaveError.TheVariants as save_error
 use Rattle.cv_desk.specs.declared.errors.ClaimError.{ClaimError}
 use Rattle.cv_desk.specs.declared.tasks.Claim.{Claim}
 use Rattle.cv_desk.specs.declared.tasks.Claim.TheVariants as claim
@@ -321,7 +322,9 @@ owed_preview (Ok x) old new who j t ok err h = by (job_in (state old).jobs j) ok
 
 pub owed_save : (r : Result Composition SaveError) (old new : History) (who c : ℕ) (t : Held) → SaveNotes old new who c r
     → IsOwed 0 old.tables.rows t → IsOwed 0 new.tables.rows t
-owed_save (Err e) old new who c t went h = owed_stays old new 0 t went h
+owed_save (Err save_error.NoMemory) old new who c t went h = owed_stays old new 0 t went h
+owed_save (Err save_error.UnknownCanvas) old new who c t went h = owed_same old new 0 t went h
+owed_save (Err save_error.Nothing) old new who c t went h = owed_same old new 0 t went h
 owed_save (Ok image) old new who c t went h = by (slice_get (state old).canvases c) went
   where
     last : (o : Option Taken) → IsSomeAnd o (λ taken. Notes old new who (act.Save c taken.job)) → IsOwed 0 new.tables.rows t

@@ -5,7 +5,13 @@
 #![tactic(auto)]
 
 #[cfg(test)]
+mod caches;
+#[cfg(test)]
+mod fold;
+#[cfg(test)]
 mod play;
+#[cfg(test)]
+mod random;
 mod table;
 #[cfg(test)]
 mod worked;

@@ -1,4 +1,6 @@
 //! What a script asks of a desk with one canvas, done by caller 0.
+ghost use Rattle.std.specs.Prelude.{◌≡◌, IfOk};
+
 use crate::Table;
 use cv_compose::Composed;
 use cv_desk::Desk;
@@ -25,6 +27,19 @@ fn shelf(alloc: Global, map: &str, layers: [&str; 3]) -> Result<SureShelf, NoMem
     Ok(SureShelf::new(alloc, files))
 }
 
+/// The store of a project.
+pub fn opened_store(alloc: Global, map: &str, layers: [&str; 3]) -> Result<Store, Fail>
+    ensures { IfOk result (λ store. store.version ≡ 1) }
+{
+    let mut shelf = shelf(alloc, map, layers)?;
+    let Ok(opened) = open(alloc, &mut shelf, "map") else {
+        return Err(Fail::from(AllocError));
+    };
+    let Opened { file, contents } = opened;
+    let store = Store::open(alloc, file, contents.into_vec())?;
+    Ok(store)
+}
+
 /// The desk of a project, with these canvases.
 pub fn desk(
     alloc: Global,
@@ -32,12 +47,7 @@ pub fn desk(
     layers: [&str; 3],
     specs: &[CanvasSpec],
 ) -> Result<Desk, Fail> {
-    let mut shelf = shelf(alloc, map, layers)?;
-    let Ok(opened) = open(alloc, &mut shelf, "map") else {
-        return Err(Fail::from(AllocError));
-    };
-    let Opened { file, contents } = opened;
-    let store = Store::open(alloc, file, contents.into_vec())?;
+    let store = opened_store(alloc, map, layers)?;
     match Desk::open(alloc, store, specs) {
         Ok(desk) => Ok(desk),
         Err(refused) => Err(Fail::from(refused.1)),
@@ -61,13 +71,37 @@ const SQUARES: [&str; 3] = [
     "wkt\n\"POLYGON((0 0,4 0,4 2,0 2,0 0))\"\n",
 ];
 
-const FIRST: View = View {
+/// A view of both squares.
+pub const FIRST: View = View {
     lx2: 0,
     ty2: 8_000_000,
     u: 1_000_000,
     w: 4,
     h: 4,
 };
+
+/// The view one pixel further east.
+pub const BESIDE: View = View {
+    lx2: 2_000_000,
+    ty2: 8_000_000,
+    u: 1_000_000,
+    w: 4,
+    h: 4,
+};
+
+/// The view with pixels of half the side.
+pub const HALVED: View = View {
+    lx2: 0,
+    ty2: 8_000_000,
+    u: 500_000,
+    w: 4,
+    h: 4,
+};
+
+/// The store of the two squares.
+pub fn two_store(alloc: Global) -> Result<Store, Fail> {
+    opened_store(alloc, TWO, SQUARES)
+}
 
 /// The two squares on a canvas of this capacity, which shows all of them.
 pub fn two(alloc: Global, capacity: u32) -> Result<Table, Fail> {
@@ -81,6 +115,28 @@ pub fn two(alloc: Global, capacity: u32) -> Result<Table, Fail> {
         Ok(()) => Ok(table),
         Err(_) => Err(Fail::from(AllocError)),
     }
+}
+
+/// A project without layers.
+const BLANK: &str = r#"{"version":1,"background":"102030","canvases":[],"layers":[]}"#;
+
+/// A view of two pixels.
+pub const NARROW: View = View {
+    lx2: 0,
+    ty2: 2_000_000,
+    u: 1_000_000,
+    w: 2,
+    h: 1,
+};
+
+/// The project without layers on a canvas of two pixels, which has no view.
+pub fn blank(alloc: Global) -> Result<Table, Fail> {
+    let spec = CanvasSpec {
+        w: 2,
+        h: 1,
+        capacity: 0,
+    };
+    Ok(Table::of(alloc, desk(alloc, BLANK, SQUARES, &[spec])?))
 }
 
 /// The last job that was started, or 0.

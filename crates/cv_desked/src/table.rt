@@ -10,6 +10,7 @@ use cv_compose::{ComposeInput, Composed, compose};
 use cv_desk::{
     Claim, ClaimError, Desk, EndError, PreviewError, SaveError, SetViewError, StartError,
 };
+use cv_event::Journal;
 use cv_layer::{NoMemory, Piece};
 use cv_model::{Edit, EditError, View};
 use cv_outside::Never;
@@ -128,6 +129,17 @@ impl Table {
     /// The desk.
     pub fn desk(&self) -> &Desk {
         &self.desk
+    }
+
+    /// The desk's journal alone.
+    pub fn into_journal(self) -> Journal {
+        let Table { desk, .. } = self;
+        desk.into_journal()
+    }
+
+    /// The task that caller 0 holds.
+    pub fn held(&self) -> &Held {
+        &self.held
     }
 
     /// Gives a canvas a view.

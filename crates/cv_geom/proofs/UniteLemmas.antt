@@ -9,7 +9,7 @@ use Rattle.std.proofs.lemmas.List.Sorted.{All-permutation, sum_by-IsPermutation}
 use Rattle.std.proofs.lemmas.List.Sums.{sum_by-cons}
 use Rattle.cv_geom.specs.declared.runs.Run.{Run}
 use Rattle.cv_geom.specs.declared.runs.Area.{Area}
-use Rattle.cv_geom.specs.Runs.{is_on, is_on_any, LiesIn, BeginsAt, AreInOrder, Unites, united, united_from}
+use Rattle.cv_geom.specs.Runs.{is_on, is_on_any, LiesIn, BeginsAt, AreInOrder, FollowEach, Unites, united, united_from}
 
 -- each run begins at the one before it or behind
 abbrev Ascends : Run → List Run → Type 0
@@ -184,6 +184,14 @@ moved-on i j xs ys moved = any-counts ys ∙ ap (λ n. nat_lt 0 n) (sum_by-IsPer
         any-more (is_on run i j) (is_on_any i j rest) (sum_by once rest) (any-counts rest)
         ∙ ap (λ n. nat_lt 0 n) (sym (sum_by-cons once run rest))
 
+-- a run of an area begins at its first pixel or behind
+begins-in : (area : Area) (a : Run) → LiesIn area a → BeginsAt area.columns.from area.rows.from a
+begins-in area a here = pick (grind arith)
+  where
+    pick : (area.rows.from < a.row) ⊎ (a.row ≤ area.rows.from) → BeginsAt area.columns.from area.rows.from a
+    pick (inl less) = inl less
+    pick (inr most) = inr (omega (arith, here.north), here.west)
+
 -- sorted runs that were joined have the pixels of those given
 unites-sorted :
     (xs : List Run) → IsSortedByKey place_of compared xs → Unites xs (united xs)
@@ -199,15 +207,9 @@ unites-sorted (a ∷ rest) sorted =
           united-in area a rest (All-head (LiesIn area) a rest all) (All-tail (LiesIn area) a rest all);
       order = λ area all.
           let here = All-head (LiesIn area) a rest all in
-          united-order area.columns.from area.rows.from a rest ascends (first area here (grind arith));
+          united-order area.columns.from area.rows.from a rest ascends (begins-in area a here);
       covered = λ i j. united-on i j a rest ascends;
     }
-  where
-    first :
-        (area : Area) → LiesIn area a → (area.rows.from < a.row) ⊎ (a.row ≤ area.rows.from)
-        → BeginsAt area.columns.from area.rows.from a
-    first area here (inl less) = inl less
-    first area here (inr most) = inr (omega (arith, here.north), here.west)
 
 pub unites-moved :
     (xs ys : List Run) → IsPermutation xs ys → IsSortedByKey place_of compared ys → Unites xs (united ys)
@@ -218,3 +220,34 @@ unites-moved xs ys moved sorted =
       order = λ area all. told.order area (All-permutation (LiesIn area) xs ys moved all);
       covered = λ i j. told.covered i j ∙ moved-on i j xs ys moved;
     }
+
+-- runs that follow each other are as they should be
+follow-order : (x y : ℕ) (a : Run) (rest : List Run) → BeginsAt x y a → FollowEach (a ∷ rest) → AreInOrder x y (a ∷ rest)
+follow-order x y a [] begins follow = (begins, tt)
+follow-order x y a (b ∷ rest) begins follow =
+    let next : BeginsAt a.end a.row b = follow.each 0 a (omega arith) in
+    let later =
+    follow-order a.end a.row b rest next
+    (record { each = λ k d less. moved k d (suc k + 1) (suc (k + 1)) (omega arith) (follow.each (suc k) d (omega arith)) }) in
+    (begins, later)
+  where
+    moved :
+        (k : ℕ) (d : Run) (n m : ℕ) → n ≡ m
+        → BeginsAt (get_or (b ∷ rest) k d).end (get_or (b ∷ rest) k d).row (get_or (a ∷ b ∷ rest) n d)
+        → BeginsAt (get_or (b ∷ rest) k d).end (get_or (b ∷ rest) k d).row (get_or (a ∷ b ∷ rest) m d)
+    moved k d n m same told = rw (sym same) told
+
+pub unites-followed : (xs : List Run) → FollowEach xs → Unites xs xs
+unites-followed xs follow = record {
+  within = λ area all. all;
+  order = λ area all. from_first area xs follow all;
+  covered = λ i j. refl;
+}
+  where
+    from_first :
+        (area : Area) (runs : List Run) → FollowEach runs → All (LiesIn area) runs
+        → AreInOrder area.columns.from area.rows.from runs
+    from_first area [] follow all = tt
+    from_first area (a ∷ rest) follow all =
+        follow-order area.columns.from area.rows.from a rest
+        (begins-in area a (All-head (LiesIn area) a rest all)) follow

@@ -1,7 +1,7 @@
 -- Runs: columns of rows of pixels, and the runs of an area that have exactly the pixels at which a test holds.
 --
 -- Source: this project's own.
-use Rattle.std.specs.Prelude.{ℕ, max, ◌-◌, ◌*◌, ◌≡◌, ◌==◌, ◌<◌, ◌≤◌, nat_lt, nat_le, Bool, true, false, ◌&&◌, ◌||◌, if◌then◌else◌, ◌⊎◌, List, [], ◌∷◌, map, sum_by, All}
+use Rattle.std.specs.Prelude.{ℕ, max, ◌+◌, ◌-◌, ◌*◌, ◌≡◌, ◌==◌, ◌<◌, ◌≤◌, nat_lt, nat_le, Bool, true, false, ◌&&◌, ◌||◌, if◌then◌else◌, ◌⊎◌, List, [], ◌∷◌, length, slice_index_or, map, sum_by, All}
 use Rattle.std.specs.List.{list_any, flat_map}
 use Rattle.cv_model.specs.declared.span.Span.{Span}
 use Rattle.cv_model.specs.Positions.{Position}
@@ -59,6 +59,11 @@ BeginsAt i j run = (j < run.row) ⊎ ((j ≡ run.row) × (i ≤ run.from))
 abbrev pub AreInOrder : ℕ → ℕ → List Run → Type 0
 AreInOrder i j [] = Unit {0}
 AreInOrder i j (run ∷ rest) = BeginsAt i j run × AreInOrder run.end run.row rest
+
+-- each run but the first begins at the end of the one in front of it, or behind
+pub record FollowEach (runs : List Run) : Type 0 where
+  pub each : (k : ℕ) (d : Run) → k + 1 < length runs
+      → BeginsAt (slice_index_or runs k d).end (slice_index_or runs k d).row (slice_index_or runs (k + 1) d)
 
 -- runs with exactly the pixels of an area at which a test holds, in reading order, so that none is on two
 pub record AreRunsOf (test : ℕ → ℕ → Bool) (area : Area) (runs : List Run) : Type 0 where

@@ -1,7 +1,7 @@
 //! Runs of pixels: columns of rows, and lists of them that are joined.
 
-ghost use Rattle.std.specs.Prelude.{◌≡◌, ◌++◌, ◌∷◌, [], OnOk, OnErr, option_to_list};
-ghost use Rattle.cv_geom.specs.Runs.{Unites, united, in_row, RunsAreApart, RunsAreFew};
+ghost use Rattle.std.specs.Prelude.{◌≡◌, ◌++◌, ◌∷◌, [], true, OnOk, OnErr, option_to_list};
+ghost use Rattle.cv_geom.specs.Runs.{BeginsAt, FollowEach, Unites, united, in_row, RunsAreApart, RunsAreFew};
 
 use cv_model::{NoMemory, Span};
 use std::alloc::Global;
@@ -100,12 +100,34 @@ impl Runs {
     pub fn unite(&mut self) -> Result<(), NoMemory>
         ensures { OnOk result (Unites self.old self.new) }
     {
+        if are_in_order(&self.runs) {
+            return Ok(());
+        }
         self.runs.sort_unstable_by_key(|run| (run.row, run.from));
         self.spare.clear();
         put_united(&self.runs, &mut self.spare)?;
         swap(&mut self.runs, &mut self.spare);
         Ok(())
     }
+}
+
+/// Whether each of some runs begins behind the end of the one before it, or there.
+fn are_in_order(runs: &[Run]) -> bool
+    ensures { result ≡ true → FollowEach runs.now }
+{
+    for at in 1..runs.len() {
+        if !begins_behind(runs[at], runs[at - 1]) {
+            return false;
+        }
+    }
+    true
+}
+
+/// Whether a run begins behind the end of another in reading order, or there.
+fn begins_behind(b: Run, a: Run) -> bool
+    ensures { result ≡ true → BeginsAt a.end a.row b }
+{
+    a.row < b.row || (a.row == b.row && a.end <= b.from)
 }
 
 /// Puts runs in reading order into an empty list, those that overlap or touch in a row as one.

@@ -21,9 +21,7 @@ fn push_pixels(bytes: &mut Vec<u8>, pixels: &[Rgb]) -> Result<(), NoMemory>
     ensures { OnOk result (bytes.new.items ≡ bytes.old.items ++ flat_map pixel_bytes pixels.now) }
 {
     for pixel in pixels {
-        bytes.push(pixel.r)?;
-        bytes.push(pixel.g)?;
-        bytes.push(pixel.b)?;
+        bytes.extend_from_slice(&[pixel.r, pixel.g, pixel.b])?;
     }
     Ok(())
 }

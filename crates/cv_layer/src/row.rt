@@ -1,6 +1,6 @@
 //! A feature, as a table holds it.
 
-ghost use Rattle.std.specs.Prelude.{◌≡◌, ℕ, ◌<◌, length, slice_set, IfOk, option_and_then};
+ghost use Rattle.std.specs.Prelude.{◌≡◌, ℕ, ◌<◌, [], length, slice_set, IfOk, option_and_then};
 ghost use Rattle.std.specs.Option.{option_copied};
 ghost use Rattle.cv_model.specs.Edits.{feature_vertices};
 ghost use Rattle.cv_model.specs.Geometries.{counted};
@@ -96,16 +96,51 @@ fn with_text(alloc: Global, texts: &[Text], at: usize, value: &Text) -> Result<V
     Ok(made)
 }
 
+/// Values that can be shared.
+fn shared_values(alloc: Global, values: Values) -> Result<Shared<Values>, NoMemory>
+    ensures { IfOk result (λ made. made ≡ values) }
+{
+    match Shared::of(alloc, values) {
+        Ok(shared) => Ok(shared),
+        Err(refused) => Err(refused.1),
+    }
+}
+
+/// No values, which many rows may share.
+pub fn no_values(alloc: Global) -> Result<Shared<Values>, NoMemory>
+    ensures { IfOk result (λ made. made ≡ []) }
+{
+    shared_values(alloc, Values::new(alloc))
+}
+
+/// Values that can be shared; where there are none, those that are given.
+fn values_or(
+    alloc: Global,
+    values: Values,
+    none: &Shared<Values>,
+) -> Result<Shared<Values>, NoMemory>
+    requires { none.now ≡ [] }
+    ensures { IfOk result (λ made. made ≡ values) }
+{
+    if values.len() == 0 {
+        none.clone()
+    } else {
+        shared_values(alloc, values)
+    }
+}
+
 impl FeatureRow {
-    /// The row of a feature. A refusal drops it.
-    pub fn of(alloc: Global, feature: Feature) -> Result<FeatureRow, NoMemory>
+    /// The row of a feature. A refusal drops it. Rows without values share `none`.
+    pub fn of(
+        alloc: Global,
+        feature: Feature,
+        none: &Shared<Values>,
+    ) -> Result<FeatureRow, NoMemory>
+        requires { none.now ≡ [] }
         ensures { IfOk result (λ made. made ≡ feature) }
     {
         let geometry = shared_geometry(alloc, feature.geometry)?;
-        let values = match Shared::of(alloc, feature.values) {
-            Ok(values) => values,
-            Err(refused) => return Err(refused.1),
-        };
+        let values = values_or(alloc, feature.values, none)?;
         Ok(FeatureRow {
             id: feature.id,
             bounds: bounds_of(&geometry),

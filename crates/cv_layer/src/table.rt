@@ -8,7 +8,7 @@ ghost use Rattle.cv_model.specs.Features.{IsFeatureTable, ids_of};
 ghost use Rattle.cv_model.specs.declared.feature.Feature.{Feature};
 ghost use Rattle.cv_layer.specs.Tables.{Ascend, IsBetween, IsTable, feature_values};
 
-use crate::row::FeatureRow;
+use crate::row::{FeatureRow, no_values};
 use cv_chunks::{Chunked, Shared};
 use cv_model::{Feature, FeatureList, Geometry, NoMemory, Text, Values};
 use std::alloc::{AllocError, Global};
@@ -39,15 +39,12 @@ impl Model for Table {
         t.ascending t.vertices t.values };
 }
 
-/// The rows of these features, in order. The features are moved into them.
-fn rows_of(alloc: Global, features: Vec<Feature>) -> Result<Vec<FeatureRow>, NoMemory>
-    ensures { IfOk result (λ made. made.items ≡ features.items) }
-{
-    let mut rows = Vec::with_capacity(alloc, features.len())?;
-    for feature in features {
-        rows.push(FeatureRow::of(alloc, feature)?)?;
-    }
-    Ok(rows)
+/// Rows, with the counts of their vertices and of their values.
+#[derive(Drop)]
+struct Counted {
+    rows: Vec<FeatureRow>,
+    vertices: u64,
+    values: u64,
 }
 
 /// The sum of two counts. One that 64 bits don't hold is want of memory, which no such count fits.
@@ -57,26 +54,28 @@ fn sum(a: u64, b: u64) -> Result<u64, NoMemory>
     a.checked_add(b).ok_or(AllocError)
 }
 
-/// How many vertices these features have together.
-fn vertices_of(rows: &[FeatureRow]) -> Result<u64, NoMemory>
-    ensures { IfOk result (λ count. count ≡ sum_by feature_vertices rows.now) }
+/// The rows of these features, in order. The features are moved into them. Each is counted while its row is
+/// made, as its geometry is at hand then.
+fn rows_of(alloc: Global, features: Vec<Feature>) -> Result<Counted, NoMemory>
+    ensures rows { IfOk result (λ made. made.rows.items ≡ features.items) }
+    ensures vertices { IfOk result (λ made. made.vertices ≡ sum_by feature_vertices features.items) }
+    ensures values { IfOk result (λ made. made.values ≡ sum_by feature_values features.items) }
 {
-    let mut count: u64 = 0;
-    for row in rows {
-        count = sum(count, row.vertices()?)?;
+    let mut rows = Vec::with_capacity(alloc, features.len())?;
+    let none = no_values(alloc)?;
+    let mut vertices: u64 = 0;
+    let mut values: u64 = 0;
+    for feature in features {
+        let row = FeatureRow::of(alloc, feature, &none)?;
+        vertices = sum(vertices, row.vertices()?)?;
+        values = sum(values, row.values().len() as u64)?;
+        rows.push(row)?;
     }
-    Ok(count)
-}
-
-/// How many values these features have together.
-fn values_of(rows: &[FeatureRow]) -> Result<u64, NoMemory>
-    ensures { IfOk result (λ count. count ≡ sum_by feature_values rows.now) }
-{
-    let mut count: u64 = 0;
-    for row in rows {
-        count = sum(count, row.values().len() as u64)?;
-    }
-    Ok(count)
+    Ok(Counted {
+        rows,
+        vertices,
+        values,
+    })
 }
 
 /// Whether each feature's id is less than those of the features behind it.
@@ -204,17 +203,15 @@ impl Table {
             Ok(columns) => columns,
             Err(refused) => return Err(refused.1),
         };
-        let rows = rows_of(alloc, features.into_vec())?;
-        let ascending = ids_ascend(rows.as_slice());
-        let vertices = vertices_of(rows.as_slice())?;
-        let values = values_of(rows.as_slice())?;
+        let made = rows_of(alloc, features.into_vec())?;
+        let ascending = ids_ascend(made.rows.as_slice());
         Ok(Table {
             alloc,
             columns,
-            rows: Chunked::of(rows)?,
+            rows: Chunked::of(made.rows)?,
             ascending,
-            vertices,
-            values,
+            vertices: made.vertices,
+            values: made.values,
         })
     }
 
@@ -326,7 +323,7 @@ impl Table {
         ensures { IfOk result
             (λ made. made ≡ record self.now { features = (insert self.now.features at feature) }) }
     {
-        let row = FeatureRow::of(self.alloc, feature)?;
+        let row = FeatureRow::of(self.alloc, feature, &no_values(self.alloc)?)?;
         let ascending = self.ascends_with(at, row.id());
         let vertices = sum(self.vertices, row.vertices()?)?;
         let values = sum(self.values, row.values().len() as u64)?;

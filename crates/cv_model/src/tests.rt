@@ -1,6 +1,6 @@
 //! What no clause says: each call that takes memory can answer, and a list works at a type that must be
 //! dropped.
-use crate::{Cell, CellList, Point, Polygon, Rgb, RgbList, Ring, Text};
+use crate::{Cell, CellList, Point, Polygon, Rgb, RgbList, Ring, Text, View, pan_of};
 use std::test::Fail;
 
 const RED: Rgb = Rgb { r: 255, g: 0, b: 0 };
@@ -58,5 +58,30 @@ fn a_polygon_takes_rings(rt: HostRuntime) -> Result<(), Fail> {
 fn a_text_is_copied(rt: HostRuntime) -> Result<(), Fail> {
     let text = Text::of(rt.alloc(), "Grünau 4")?;
     assert_eq!(rt; text.as_str(), "Grünau 4");
+    Ok(())
+}
+
+#[test]
+fn a_pan_is_told_in_pixels(rt: HostRuntime) -> Result<(), Fail> {
+    let (lx2, ty2, u, w, h) = (0, 0, 500_000, 10, 8);
+    let old = View { lx2, ty2, u, w, h };
+    let new = View {
+        lx2: 3_000_000,
+        ty2: 2_000_000,
+        ..old
+    };
+    let half = View {
+        lx2: 500_000,
+        ..old
+    };
+    let larger = View { h: 9, ..old };
+    let coarser = View {
+        u: 1_000_000,
+        ..old
+    };
+    assert_eq!(rt; pan_of(&old, &new), Some((3, -2)));
+    for other in [half, larger, coarser] {
+        assert_eq!(rt; pan_of(&old, &other), None);
+    }
     Ok(())
 }

@@ -1,5 +1,5 @@
 //! Where a painter asks whether it is to stop.
-ghost use Rattle.std.specs.Prelude.{◌≡◌, ◌≤◌, ◌-◌, ◌↔◌, ℕ, IsTrue};
+ghost use Rattle.std.specs.Prelude.{◌≡◌, ◌≤◌, ◌+◌, ◌-◌, ◌↔◌, ℕ, IsTrue, false};
 ghost use Rattle.cv_outside.specs.Counts.{Rose};
 
 /// Who is asked between rows whether a painting is to stop.
@@ -7,10 +7,12 @@ pub trait Stop {
     /// How often the stop has said yes.
     ghost yeses: { Self → ℕ };
 
-    /// Whether to stop. It waits for nobody.
+    /// Whether to stop. It waits for nobody. A yes counts once, and a no isn't counted.
     fn poll(&mut self) -> bool
         ensures counts { yeses self.old ≤ yeses self.new }
-        ensures cause { IsTrue result → Rose (yeses self.old) (yeses self.new) };
+        ensures once { yeses self.new ≤ yeses self.old + 1 }
+        ensures cause { IsTrue result → Rose (yeses self.old) (yeses self.new) }
+        ensures quiet { result ≡ false → yeses self.new ≡ yeses self.old };
 }
 
 /// A stop that never says yes.
@@ -50,7 +52,9 @@ impl Stop for After {
 
     fn poll(&mut self) -> bool
         ensures counts { self.old.yeses ≤ self.new.yeses }
+        ensures once { self.new.yeses ≤ self.old.yeses + 1 }
         ensures cause { IsTrue result → Rose self.old.yeses self.new.yeses }
+        ensures quiet { result ≡ false → self.new.yeses ≡ self.old.yeses }
         ensures silent { self.new.silent ≡ self.old.silent - 1 }
         ensures turn { IsTrue result ↔ (self.old.silent ≡ 0) }
     {

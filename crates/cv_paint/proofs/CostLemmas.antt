@@ -161,7 +161,7 @@ rect_paid parts view r =
         let more : q * (n + m + 1) ≡ q * n + q * m + q = grind arith in omega (arith, spread, more, own, mask)
 
 -- those of strips
-pub strips_paid : (parts : Parts) (s : StripPair)
+strips_paid : (parts : Parts) (s : StripPair)
     → option_map_or (rect_cost parts) s.first 0 + option_map_or (rect_cost parts) s.second 0 ≤ most_steps parts s
 unfolding most_steps rect_cost
 strips_paid parts s =
@@ -179,3 +179,17 @@ strips_paid parts s =
         let rows : 2 * s * ((h1 + h2) + 1) ≡ 2 * (s * h1) + 2 * (s * h2) + 2 * s = grind arith in
         let area : 4 * (a1 + a2) * (f + 1) ≡ 4 * (a1 * (f + 1)) + 4 * (a2 * (f + 1)) = grind arith in
         omega (arith, rows, area, first, second)
+
+-- the steps of two strips, of parts and strips that are seen as these
+pub both_paid : (parts made : Parts) (strips held : StripPair) (old mid new : ℕ) → made ≡ parts → held ≡ strips
+    → mid ≤ old + option_map_or (rect_cost made) held.first 0 → new ≤ mid + option_map_or (rect_cost made) held.second 0
+    → new ≤ old + most_steps parts strips
+both_paid parts made strips held old mid new same seen first second =
+    let most : new ≤ old + most_steps made held = omega (arith, first, second, strips_paid made held) in
+    subst (λ (s : StripPair). new ≤ old + most_steps parts s) seen (subst (λ (p : Parts). new ≤ old + most_steps p held) same most)
+
+-- and of the first of them
+pub first_paid : (parts made : Parts) (strips held : StripPair) (old mid : ℕ) → made ≡ parts → held ≡ strips
+    → mid ≤ old + option_map_or (rect_cost made) held.first 0 → mid ≤ old + most_steps parts strips
+first_paid parts made strips held old mid same seen first =
+    both_paid parts made strips held old mid mid same seen first (omega arith)

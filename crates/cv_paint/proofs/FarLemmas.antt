@@ -4,6 +4,7 @@ use Rattle.std.specs.Prelude.{cond, option_and_then}
 use Rattle.std.specs.Option.{option_map_or}
 use Rattle.std.specs.Int.{int_max, int_min}
 use Rattle.std.specs.List.{All, list_any, flat_map}
+use Rattle.std.proofs.Math.Nat.{le-max_left, le-max_right}
 use Rattle.std.proofs.lemmas.Int.{ints}
 use Rattle.std.proofs.lemmas.List.Elements.{All-head, All-tail}
 use Rattle.std.proofs.lemmas.List.Sums.{sum_by-cons, sum_by-append}
@@ -27,6 +28,7 @@ use Rattle.cv_geom.proofs.CentreLemmas.{centres-rise}
 use Rattle.cv_pen.proofs.RowLemmas.{behind-none, before-none, marked-none, marked-beside}
 use Rattle.cv_pen.proofs.SideLemmas.{meets-none, meets-beside}
 use Rattle.cv_paint.specs.Far.{is_far}
+use Rattle.cv_paint.specs.Widths.{width_of}
 
 -- ---- tests
 
@@ -442,15 +444,26 @@ far_strokes symbol view n box p g unit far boxed pens markers =
       far_marker view n box p g unit far boxed symbol.marker markers,
     ) refl
 
--- a feature lays nothing on what is far from its box
-pub missed : (symbol : Symbol) (view : PixelGrid) (n : ℕ) (box : Rectangle) (p : Position) (g : Option GeometryLists)
+-- a feature lays nothing on what is far from its box, with any symbol that is no wider
+pub missed : (drawn : Option Symbol) (view : PixelGrid) (n : ℕ) (box : Rectangle) (p : Position) (g : Option GeometryLists)
     → option_and_then box_of g ≡ Some box → pos 1 ≤ℤ view.u → is_far (half_side view n) box p ≡ true
-    → ((drawn : PenParts) → symbol.pen ≡ Some drawn → drawn.width ≤ n)
-    → ((drawn : MarkerParts) → symbol.marker ≡ Some drawn → drawn.size ≤ n)
-    → strokes (Some symbol) view p g ≡ []
-missed symbol view n box p None boxed unit far pens markers = refl
-missed symbol view n box p (Some g) boxed unit far pens markers =
-    far_strokes symbol view n box p g unit far boxed pens markers
+    → option_map_or width_of drawn 0 ≤ n → strokes drawn view p g ≡ []
+missed None view n box p g boxed unit far most = refl
+missed (Some symbol) view n box p None boxed unit far most = refl
+missed (Some symbol) view n box p (Some g) boxed unit far most =
+    far_strokes symbol view n box p g unit far boxed (pen_within symbol n most) (marker_within symbol n most)
+  where
+    pen_within : (symbol : Symbol) (n : ℕ) → width_of symbol ≤ n → (drawn : PenParts) → symbol.pen ≡ Some drawn
+        → drawn.width ≤ n
+    pen_within symbol n most drawn is =
+        let own = option_map_or (λ (marker : MarkerParts). marker.size) symbol.marker 1 in
+        omega (arith, le-max_left drawn.width own, rw is at most)
+
+    marker_within : (symbol : Symbol) (n : ℕ) → width_of symbol ≤ n → (drawn : MarkerParts)
+        → symbol.marker ≡ Some drawn → drawn.size ≤ n
+    marker_within symbol n most drawn is =
+        let own = option_map_or (λ (pen : PenParts). pen.width) symbol.pen 1 in
+        omega (arith, le-max_right own drawn.size, rw is at most)
 
 -- and covers nothing of it
 pub outside : (box : Rectangle) (p : Position) (g : Option GeometryLists) → option_and_then box_of g ≡ Some box

@@ -1,11 +1,11 @@
 -- Pixels of a layer, from what lies on a canvas and what a mask shows.
-use Rattle.std.proofs.Common.{◌≡◌, ℕ, zero, suc, ◌+◌, ◌<◌, ◌≤◌, Bool, List, ◌∷◌, ◌++◌, map, Option, None, refl, ap, ◌∙◌, arith}
+use Rattle.std.proofs.Common.{◌≡◌, ℕ, zero, suc, ◌+◌, ◌<◌, ◌≤◌, Bool, List, ◌∷◌, ◌++◌, map, Option, None, refl, ap, subst, ◌∙◌, arith}
 use Rattle.std.specs.List.{flat_map, range_with_len, list_any}
 use Rattle.std.proofs.Common.{false, ◌||◌}
 use Rattle.cv_model.specs.declared.colour.Rgba.{Rgba}
 use Rattle.cv_model.specs.Views.{PixelGrid, centre_of}
 use Rattle.cv_model.specs.Colours.{transparent, laid, laid_on}
-use Rattle.cv_model.specs.Layers.{Contents, Features, Cells, Parts}
+use Rattle.cv_model.specs.Layers.{Contents, Features, Cells, Core, Parts}
 use Rattle.cv_model.specs.Positions.{Position}
 use Rattle.cv_model.specs.Grids.{CellGrid}
 use Rattle.cv_model.specs.declared.feature.Feature.{Feature}
@@ -40,17 +40,20 @@ pixels_same w h f g same =
     rows_same (row_of w f) (row_of w g) 0 h (λ j low high.
     map_same (λ i. f i j) (λ i. g i j) 0 w (λ i west east. same i j (omega arith) (omega arith)))
 
--- what is painted, as the mask shows it, is the layer's pixel
-pub painted_pixels : (view : PixelGrid) (parts : Parts) (contents : Contents) (mask : Option (Raster Bool))
-    (at : ℕ → ℕ → Rgba) → contents ≡ parts.own.contents → IsMask view parts.mask mask
+-- what is painted of parts that are seen as these, as the mask shows it, is the layer's pixel
+pub painted_pixels : (view : PixelGrid) (parts held : Parts) (core : Core) (contents : Contents) (mask : Option (Raster Bool))
+    (at : ℕ → ℕ → Rgba) → core ≡ held.own → held ≡ parts → contents ≡ core.contents → IsMask view held.mask mask
     → ((i j : ℕ) → i < view.w → j < view.h → at i j ≡ painted contents parts view (centre_of view i j))
     → pixels_of view.w view.h (masked mask at) ≡ pixels_of view.w view.h (pixel parts view)
 unfolding pixel
-painted_pixels view parts contents mask at own is_mask paints =
+painted_pixels view parts held core contents mask at own same are is_mask paints =
+    let seen : IsMask view parts.mask mask = subst (λ (p : Parts). IsMask view p.mask mask) same is_mask in
+    let whole : contents ≡ parts.own.contents =
+    are ∙ ap (λ (k : Core). k.contents) (own ∙ ap (λ (p : Parts). p.own) same) in
     pixels_same view.w view.h (masked mask at) (pixel parts view) (λ i j column row.
-    ap (λ (b : Bool). shown b (at i j)) (is_mask.shows_are i j column row)
+    ap (λ (b : Bool). shown b (at i j)) (seen.shows_are i j column row)
     ∙ ap (λ (c : Rgba). shown (is_shown (centre_of view i j) parts.mask) c)
-    (paints i j column row ∙ ap (λ (k : Contents). painted k parts view (centre_of view i j)) own))
+    (paints i j column row ∙ ap (λ (k : Contents). painted k parts view (centre_of view i j)) whole))
 
 -- a canvas that takes any colours takes those of any layer
 pub takes_any : (parts : Parts) → TakesLayer None parts

@@ -1,5 +1,5 @@
 -- What is seen of a canvas through a mask, and why a painting is given up.
-use Rattle.std.specs.Prelude.{ℕ, ◌≡◌, Bool, true, if◌then◌else◌, List, [], ◌∷◌, Option, Some, None}
+use Rattle.std.specs.Prelude.{ℕ, ◌≡◌, ◌≤◌, ◌+◌, Bool, true, if◌then◌else◌, List, [], ◌∷◌, Option, Some, None}
 use Rattle.cv_outside.specs.Counts.{Rose}
 use Rattle.cv_model.specs.declared.colour.Rgba.{Rgba}
 use Rattle.cv_model.specs.Views.{PixelGrid}
@@ -43,7 +43,8 @@ abbrev pub IsMaskOf : PixelGrid → Option (Raster Bool) → Type 0
 IsMaskOf view None = Unit {0}
 IsMaskOf view (Some cover) = HasSize view cover
 
--- a painting was stopped only where the stop said yes meanwhile
+-- a painting was stopped only where the stop said yes meanwhile, and then by its one yes; where memory was
+-- wanting, the stop had said no yes
 abbrev pub StopCause : PaintError → ℕ → ℕ → Type 0
-StopCause Stopped old new = Rose old new
-StopCause NoMemory old new = Unit {0}
+StopCause Stopped old new = Rose old new × (new ≤ old + 1)
+StopCause NoMemory old new = new ≡ old

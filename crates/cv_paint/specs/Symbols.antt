@@ -1,13 +1,16 @@
 -- Which symbol a feature is drawn with, by what is found once for a piece.
 --
 -- Source: this project's own.
-use Rattle.std.specs.Prelude.{ℕ, ◌≡◌, false, bytes_eq, List, Option, Some, None, option_map, option_and_then}
+use Rattle.std.specs.Prelude.{ℕ, ◌≡◌, Bool, true, false, ◌&&◌, bytes_eq, List, Option, Some, None, option_map, option_and_then}
 use Rattle.std.specs.Prelude.{find, position, slice_get}
 use Rattle.std.specs.Option.{option_copied, option_map_or, unwrap_or}
+use Rattle.std.specs.List.{list_all}
 use Rattle.std.specs.HashMap.{HashMap, get_by}
 use denote.Ref.{Bor}
 use Rattle.cv_model.specs.declared.feature.Feature.{Feature}
+use Rattle.cv_model.specs.declared.style.Class.{Class}
 use Rattle.cv_model.specs.declared.style.Field.{Field}
+use Rattle.cv_model.specs.declared.style.Range.{Range}
 use Rattle.cv_model.specs.declared.style.Style.{Style}
 use Rattle.cv_model.specs.declared.style.Style.TheVariants.{Single, Categorised, Graduated, Ramp}
 use Rattle.cv_model.specs.declared.symbol.Symbol.{Symbol}
@@ -64,3 +67,11 @@ field_of (Ramp ramp) = None
 -- a rule gives to the text of each feature in a column the symbol with which the feature is drawn
 abbrev pub AreSymbols : Parts → Option ℕ → Rule → Type 0
 AreSymbols parts column rule = (feature : Feature) → row_symbol rule column feature ≡ feature_symbol parts feature
+
+-- a test holds of each symbol that a style can give
+abbrev pub is_each_symbol : (Symbol → Bool) → Style → Bool
+is_each_symbol test (Single symbol) = test symbol
+is_each_symbol test (Categorised field classes fallback) =
+    list_all (λ (c : Class). test c.symbol) classes && option_map_or test fallback true
+is_each_symbol test (Graduated field classes) = list_all (λ (c : Range). test c.symbol) classes
+is_each_symbol test (Ramp ramp) = true

@@ -170,6 +170,7 @@ fn put_rows<S: Stop>(
     ensures counts { S.yeses stop.old ≤ S.yeses stop.new }
     ensures ok { OnOk result
         (pixels.new ≡ pixels.old ++ pixels_of view.now.w view.now.h (pixel input.now.parts view.now)) }
+    ensures quiet { OnOk result (S.yeses stop.new ≡ S.yeses stop.old) }
     ensures err { IfErr result (λ e. StopCause e (S.yeses stop.old) (S.yeses stop.new)) }
 {
     for j in 0..view.h {
@@ -193,6 +194,7 @@ pub fn plain<S: Stop>(
     ensures counts { S.yeses stop.old ≤ S.yeses stop.new }
     ensures ok { IfOk result
         (λ painted. painted ≡ record { input = piece.now.input; view = piece.now.view }) }
+    ensures quiet { OnOk result (S.yeses stop.new ≡ S.yeses stop.old) }
     ensures err { IfErr result (λ e. StopCause e (S.yeses stop.old) (S.yeses stop.new)) }
 {
     let view = piece.view;

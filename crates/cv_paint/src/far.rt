@@ -1,18 +1,20 @@
 //! Features that lie beyond a view, as their boxes tell.
 
-ghost use Rattle.std.specs.Prelude.{◌≡◌, ◌<◌, ◌≤◌, ◌-◌, ◌||◌, ℕ, [], Some, true, false};
+ghost use Rattle.std.specs.Prelude.{◌≡◌, ◌<◌, ◌≤◌, ◌-◌, ◌||◌, ℕ, [], Option, true, false};
 ghost use Rattle.std.specs.Prelude.{pos, ◌≤ℤ◌, ◌+ℤ◌, ◌-ℤ◌, ◌*ℤ◌, int_lt};
-ghost use Rattle.cv_model.specs.Pens.{PenParts, IsRadius};
-ghost use Rattle.cv_model.specs.Markers.{MarkerParts};
+ghost use Rattle.std.specs.Option.{option_map_or};
+ghost use Rattle.cv_model.specs.declared.symbol.Symbol.{Symbol};
+ghost use Rattle.cv_model.specs.Pens.{IsRadius};
 ghost use Rattle.cv_model.specs.Positions.{IsCoordinate, IsDoubled};
 ghost use Rattle.cv_model.specs.Views.{centre_of};
 ghost use Rattle.cv_model.specs.Pictures.{strokes, is_feature_at};
 ghost use Rattle.cv_paint.specs.Far.{is_far};
+ghost use Rattle.cv_paint.specs.Widths.{width_of};
 
 use crate::sides::half_side;
 use cv_geom::centre;
 use cv_layer::FeatureRow;
-use cv_model::{Extent, Marker, Pen, Point2, Symbol, View};
+use cv_model::{Extent, Point2, View};
 
 /// A position, moved eastwards or northwards.
 fn beyond(z: i64, r: i64) -> i64
@@ -131,48 +133,16 @@ fn is_far(bounds: &Extent, r: i64, view: &View) -> bool
     are_beyond(first_centre(view), last_centre(view), r, bounds)
 }
 
-/// How many pixels wide a pen is; 1 where there is none.
-fn pen_side(pen: Option<Pen>) -> u32
-    ensures least { 1 ≤ result }
-    ensures most { result ≤ 256 }
-    ensures side { (drawn : PenParts) → pen ≡ Some drawn → drawn.width ≤ result }
-{
-    match pen {
-        Some(pen) => pen.side(),
-        None => 1,
-    }
-}
-
-/// How many pixels wide a marker is; 1 where there is none.
-fn marker_side(marker: Option<Marker>) -> u32
-    ensures least { 1 ≤ result }
-    ensures most { result ≤ 256 }
-    ensures side { (drawn : MarkerParts) → marker ≡ Some drawn → drawn.size ≤ result }
-{
-    match marker {
-        Some(marker) => marker.side(),
-        None => 1,
-    }
-}
-
-/// How many pixels wide the pen or the marker of a symbol is, whichever is wider; 1 where it has neither.
-fn width_of(symbol: &Symbol) -> u32
-    ensures least { 1 ≤ result }
-    ensures most { result ≤ 256 }
-    ensures pen { (drawn : PenParts) → symbol.now.pen ≡ Some drawn → drawn.width ≤ result }
-    ensures marker { (drawn : MarkerParts) → symbol.now.marker ≡ Some drawn → drawn.size ≤ result }
-{
-    let (pen, marker) = (pen_side(symbol.pen), marker_side(symbol.marker));
-    if pen < marker { marker } else { pen }
-}
-
-/// Whether a feature drawn with a symbol lays nothing on a view, as its box tells.
-pub fn is_missed(row: &FeatureRow, symbol: &Symbol, view: &View) -> bool
-    ensures { result ≡ true → (i j : ℕ) → i < view.now.w → j < view.now.h
-        → strokes (Some symbol.now) view.now (centre_of view.now i j) row.now.geometry ≡ [] }
+/// Whether a feature lays nothing on a view with any symbol of so many pixels at most, as its box tells.
+pub fn is_missed(row: &FeatureRow, widest: u32, view: &View) -> bool
+    requires least { 1 ≤ widest }
+    requires most { widest ≤ 256 }
+    ensures { result ≡ true → (drawn : Option Symbol) → option_map_or width_of drawn 0 ≤ widest
+        → (i j : ℕ) → i < view.now.w → j < view.now.h
+        → strokes drawn view.now (centre_of view.now i j) row.now.geometry ≡ [] }
 {
     match row.bounds() {
-        Some(bounds) => is_far(&bounds, half_side(view, width_of(symbol)), view),
+        Some(bounds) => is_far(&bounds, half_side(view, widest), view),
         None => false,
     }
 }

@@ -18,8 +18,8 @@ use cv_model::{NoMemory, View};
 use cv_outside::Stop;
 use std::sync::ledger::Ledger;
 
-/// Lays what a feature of a layer lays on each pixel of a view. One whose box lies beyond the view is passed
-/// over.
+/// Lays what a feature of a layer lays on each pixel of a view. One whose box lies farther from the view than
+/// the layer's widest symbol reaches is passed over, before its own symbol is found.
 fn lay_row<C: Canvas, L: Ledger>(
     canvas: &mut C,
     row: &FeatureRow,
@@ -35,15 +35,15 @@ fn lay_row<C: Canvas, L: Ledger>(
         (C.at canvas.old) (C.at canvas.new)) }
     ensures cost { steps.new ≤ steps.old + feature_cost view.now row.now }
 {
-    let Some(symbol) = symbols.symbol(row) else {
+    if is_missed(row, symbols.widest(), view) {
         return Ok(());
-    };
+    }
     let Some(geometry) = row.geometry() else {
         return Ok(());
     };
-    if is_missed(row, symbol, view) {
+    let Some(symbol) = symbols.symbol(row) else {
         return Ok(());
-    }
+    };
     lay_geometry(canvas, geometry, symbol, view, work, steps)?;
     Ok(())
 }
@@ -90,6 +90,7 @@ pub fn lay_table<C: Canvas, S: Stop, L: Ledger>(
         (λ p. flat_map (feature_strokes symbols.now view.now p) table.now.features)
         (C.at canvas.old) (C.at canvas.new)) }
     ensures cost { steps.new ≤ steps.old + features_cost view.now table.now.features }
+    ensures quiet { OnOk result (S.yeses stop.new ≡ S.yeses stop.old) }
     ensures err { IfErr result (λ e. StopCause e (S.yeses stop.old) (S.yeses stop.new)) }
 {
     let rows = table.rows();

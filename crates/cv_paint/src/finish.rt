@@ -44,13 +44,14 @@ fn shown(is_shown: bool, colour: Rgba) -> Rgba
     if is_shown { colour } else { CLEAR }
 }
 
-/// Clears the pixels that aren't shown.
-fn keep_shown(row: &mut [Rgba], is_shown: &[bool])
-    requires { length is_shown.now ≡ length row.old }
-    ensures { row.new ≡ kept is_shown.now row.old }
+/// Clears the pixels of a row that aren't covered.
+fn keep_shown(row: &mut [Rgba], cover: &Cover, j: u32)
+    requires row { j < cover.now.height }
+    requires length { length row.old ≡ cover.now.width }
+    ensures { row.new ≡ kept (row_of cover.now.width (is_covered_in cover.now) j) row.old }
 {
-    for i in 0..is_shown.len() {
-        row[i] = shown(is_shown[i], row[i]);
+    for i in 0..cover.width() {
+        row[i as usize] = shown(cover.is_covered(i, j), row[i as usize]);
     }
 }
 
@@ -70,7 +71,7 @@ fn mask_row<L: Ledger>(
 {
     if let Some(cover) = mask {
         count(steps, view.w);
-        keep_shown(row, cover.row(j));
+        keep_shown(row, cover, j);
     }
 }
 
@@ -116,6 +117,7 @@ pub fn put_rows<C: Canvas, S: Stop, L: Ledger>(
     ensures counts { S.yeses stop.old ≤ S.yeses stop.new }
     ensures ok { OnOk result (pixels.new
         ≡ pixels.old ++ pixels_of view.now.w view.now.h (masked mask.now (C.at canvas.now))) }
+    ensures quiet { OnOk result (S.yeses stop.new ≡ S.yeses stop.old) }
     ensures err { IfErr result (λ e. StopCause e (S.yeses stop.old) (S.yeses stop.new)) }
     ensures cost { steps.new ≤ steps.old + view_size view.now }
 {
@@ -172,6 +174,7 @@ pub fn put_cells<S: Stop, L: Ledger>(
     ensures counts { S.yeses stop.old ≤ S.yeses stop.new }
     ensures ok { OnOk result (pixels.new ≡ pixels.old
         ++ pixels_of view.now.w view.now.h (masked mask.now (cell_pixel style.now cells.now view.now))) }
+    ensures quiet { OnOk result (S.yeses stop.new ≡ S.yeses stop.old) }
     ensures err { IfErr result (λ e. StopCause e (S.yeses stop.old) (S.yeses stop.new)) }
     ensures cost { steps.new ≤ steps.old + 2 * view_size view.now }
 {

@@ -24,6 +24,7 @@ mod strokes;
 mod symbols;
 mod texts;
 mod whole;
+mod widths;
 mod windows;
 
 pub use centres::plain;

@@ -141,6 +141,7 @@ pub fn cover_table<S: Stop, L: Ledger>(
     ensures covered { OnOk result (Covers view.now (λ p. list_any (is_feature_at p) table.now.features)
         (is_covered_in cover.old) (is_covered_in cover.new)) }
     ensures cost { steps.new ≤ steps.old + features_cost view.now table.now.features }
+    ensures quiet { OnOk result (S.yeses stop.new ≡ S.yeses stop.old) }
     ensures err { IfErr result (λ e. StopCause e (S.yeses stop.old) (S.yeses stop.new)) }
 {
     let rows = table.rows();

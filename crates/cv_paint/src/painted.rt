@@ -1,17 +1,16 @@
 //! The pixels of a layer at a view.
 
 ghost use Rattle.std.specs.Prelude.{◌≡◌, ◌+◌, ◌≤◌, ◌++◌, OnOk, IfOk, IfErr, true};
-ghost use Rattle.std.specs.List.{flat_map};
-ghost use Rattle.cv_model.specs.Views.{centre_of};
-ghost use Rattle.cv_model.specs.Colours.{laid, transparent};
+ghost use Rattle.cv_model.specs.Colours.{transparent};
 ghost use Rattle.cv_model.specs.Rasters.{pixels_of};
-ghost use Rattle.cv_model.specs.Pictures.{feature_strokes, pixel};
+ghost use Rattle.cv_model.specs.Pictures.{pixel};
 ghost use Rattle.cv_layer.specs.Layers.{contents_seen};
-ghost use Rattle.cv_paint.specs.Finish.{masked, IsMaskOf, StopCause};
+ghost use Rattle.cv_paint.specs.Finish.{IsMaskOf, StopCause};
 ghost use Rattle.cv_paint.specs.Inks.{is_ink_of};
 ghost use Rattle.cv_paint.specs.Layings.{IsSized, TakesLayer};
 ghost use Rattle.cv_paint.specs.Masks.{IsMask, IsCoverOf};
-ghost use Rattle.cv_paint.specs.Costs.{contents_cost, features_cost, mask_cost, view_size, view_cost};
+ghost use Rattle.cv_paint.specs.Costs.{contents_cost, mask_cost, view_cost};
+ghost use Rattle.cv_paint.specs.Scenes.{scene_pixels, scene_cost};
 
 use crate::error::PaintError;
 use crate::features::lay_table;
@@ -39,6 +38,7 @@ fn cover_of<S: Stop, L: Ledger>(
 ) -> Result<Cover, PaintError>
     ensures counts { S.yeses stop.old ≤ S.yeses stop.new }
     ensures ok { IfOk result (IsCoverOf view.now (contents_seen contents.now)) }
+    ensures quiet { OnOk result (S.yeses stop.new ≡ S.yeses stop.old) }
     ensures err { IfErr result (λ e. StopCause e (S.yeses stop.old) (S.yeses stop.new)) }
     ensures cost { steps.new ≤ steps.old + contents_cost view.now (contents_seen contents.now) }
 {
@@ -63,6 +63,7 @@ fn mask_of<S: Stop, L: Ledger>(
 ) -> Result<Option<Cover>, PaintError>
     ensures counts { S.yeses stop.old ≤ S.yeses stop.new }
     ensures ok { IfOk result (IsMask view.now input.now.parts.mask) }
+    ensures quiet { OnOk result (S.yeses stop.new ≡ S.yeses stop.old) }
     ensures err { IfErr result (λ e. StopCause e (S.yeses stop.old) (S.yeses stop.new)) }
     ensures cost { steps.new ≤ steps.old + mask_cost view.now input.now.parts.mask }
 {
@@ -75,32 +76,38 @@ fn mask_of<S: Stop, L: Ledger>(
     }
 }
 
+/// A text layer at a view: its features, what each is drawn with, and what its mask shows.
+#[derive(Drop)]
+struct Scene<'a> {
+    table: &'a Table,
+    symbols: &'a Symbols<'a>,
+    mask: &'a Option<Cover>,
+    view: &'a View,
+}
+
 /// Puts the pixels of a text layer, as a mask shows them, behind others, row by row from the top, by a canvas
 /// on which nothing lies yet.
 fn paint_on<C: Canvas, S: Stop, L: Ledger>(
     alloc: Global,
     canvas: &mut C,
-    table: &Table,
-    symbols: &Symbols,
-    mask: &Option<Cover>,
-    view: &View,
+    scene: &Scene,
     work: &mut Workspace,
     stop: &mut S,
     steps: &mut Steps<L>,
     pixels: &mut RgbaList,
 ) -> Result<(), PaintError>
-    requires size { IsSized view.now (C.frame canvas.old) }
-    requires ink { TakesLayer (C.frame canvas.old).ink symbols.now }
+    requires size { IsSized scene.now.view.now (C.frame canvas.old) }
+    requires ink { TakesLayer (C.frame canvas.old).ink scene.now.symbols.now }
     requires clear { C.at canvas.old ≡ (λ i j. transparent) }
-    requires mask { IsMaskOf view.now mask.now }
+    requires mask { IsMaskOf scene.now.view.now scene.now.mask.now }
     ensures counts { S.yeses stop.old ≤ S.yeses stop.new }
-    ensures ok { OnOk result (pixels.new ≡ pixels.old ++ pixels_of view.now.w view.now.h (masked mask.now
-        (λ i j. laid (flat_map (feature_strokes symbols.now view.now (centre_of view.now i j))
-        table.now.features)))) }
+    ensures ok { OnOk result (pixels.new ≡ pixels.old ++ scene_pixels scene.now) }
+    ensures quiet { OnOk result (S.yeses stop.new ≡ S.yeses stop.old) }
     ensures err { IfErr result (λ e. StopCause e (S.yeses stop.old) (S.yeses stop.new)) }
-    ensures cost { steps.new ≤ steps.old + (features_cost view.now table.now.features + view_size view.now) }
+    ensures cost { steps.new ≤ steps.old + scene_cost scene.now }
 {
-    lay_table(canvas, table, symbols, view, work, stop, steps)?;
+    let (mask, view) = (scene.mask, scene.view);
+    lay_table(canvas, scene.table, scene.symbols, view, work, stop, steps)?;
     put_rows(alloc, &*canvas, mask, view, stop, steps, pixels)?;
     Ok(())
 }
@@ -109,94 +116,53 @@ fn paint_on<C: Canvas, S: Stop, L: Ledger>(
 fn paint_ink<S: Stop, L: Ledger>(
     alloc: Global,
     ink: Rgba,
-    table: &Table,
-    symbols: &Symbols,
-    mask: &Option<Cover>,
-    view: &View,
+    scene: &Scene,
     work: &mut Workspace,
     stop: &mut S,
     steps: &mut Steps<L>,
     pixels: &mut RgbaList,
 ) -> Result<(), PaintError>
-    requires ink { is_ink_of ink symbols.now.own.style ≡ true }
-    requires mask { IsMaskOf view.now mask.now }
+    requires ink { is_ink_of ink scene.now.symbols.now.own.style ≡ true }
+    requires mask { IsMaskOf scene.now.view.now scene.now.mask.now }
     ensures counts { S.yeses stop.old ≤ S.yeses stop.new }
-    ensures ok { OnOk result (pixels.new ≡ pixels.old ++ pixels_of view.now.w view.now.h (masked mask.now
-        (λ i j. laid (flat_map (feature_strokes symbols.now view.now (centre_of view.now i j))
-        table.now.features)))) }
+    ensures ok { OnOk result (pixels.new ≡ pixels.old ++ scene_pixels scene.now) }
+    ensures quiet { OnOk result (S.yeses stop.new ≡ S.yeses stop.old) }
     ensures err { IfErr result (λ e. StopCause e (S.yeses stop.old) (S.yeses stop.new)) }
-    ensures cost { steps.new ≤ steps.old + (features_cost view.now table.now.features + view_size view.now) }
+    ensures cost { steps.new ≤ steps.old + scene_cost scene.now }
 {
+    let view = scene.view;
     if ink.a == 255 {
         let mut canvas = OpaqueCanvas::new(alloc, view.w, view.h, ink)?;
-        paint_on(
-            alloc,
-            &mut canvas,
-            table,
-            symbols,
-            mask,
-            view,
-            work,
-            stop,
-            steps,
-            pixels,
-        )
+        paint_on(alloc, &mut canvas, scene, work, stop, steps, pixels)
     } else {
         let mut canvas = CountCanvas::new(alloc, view.w, view.h, ink)?;
-        paint_on(
-            alloc,
-            &mut canvas,
-            table,
-            symbols,
-            mask,
-            view,
-            work,
-            stop,
-            steps,
-            pixels,
-        )
+        paint_on(alloc, &mut canvas, scene, work, stop, steps, pixels)
     }
 }
 
 /// Puts the pixels of a text layer, as a mask shows them, behind others, row by row from the top.
-fn paint_table<S: Stop, L: Ledger>(
+fn paint_scene<S: Stop, L: Ledger>(
     alloc: Global,
-    table: &Table,
-    symbols: &Symbols,
-    mask: &Option<Cover>,
-    view: &View,
+    scene: &Scene,
     work: &mut Workspace,
     stop: &mut S,
     steps: &mut Steps<L>,
     pixels: &mut RgbaList,
 ) -> Result<(), PaintError>
-    requires { IsMaskOf view.now mask.now }
+    requires { IsMaskOf scene.now.view.now scene.now.mask.now }
     ensures counts { S.yeses stop.old ≤ S.yeses stop.new }
-    ensures ok { OnOk result (pixels.new ≡ pixels.old ++ pixels_of view.now.w view.now.h (masked mask.now
-        (λ i j. laid (flat_map (feature_strokes symbols.now view.now (centre_of view.now i j))
-        table.now.features)))) }
+    ensures ok { OnOk result (pixels.new ≡ pixels.old ++ scene_pixels scene.now) }
+    ensures quiet { OnOk result (S.yeses stop.new ≡ S.yeses stop.old) }
     ensures err { IfErr result (λ e. StopCause e (S.yeses stop.old) (S.yeses stop.new)) }
-    ensures cost { steps.new ≤ steps.old + (features_cost view.now table.now.features + view_size view.now) }
+    ensures cost { steps.new ≤ steps.old + scene_cost scene.now }
 {
-    let layer = symbols.input().layer();
+    let view = scene.view;
+    let layer = scene.symbols.input().layer();
     match ink_of(layer.style()) {
-        Some(ink) => paint_ink(
-            alloc, ink, table, symbols, mask, view, work, stop, steps, pixels,
-        ),
+        Some(ink) => paint_ink(alloc, ink, scene, work, stop, steps, pixels),
         None => {
             let mut canvas = PixelCanvas::new(alloc, view.w, view.h)?;
-            paint_on(
-                alloc,
-                &mut canvas,
-                table,
-                symbols,
-                mask,
-                view,
-                work,
-                stop,
-                steps,
-                pixels,
-            )
+            paint_on(alloc, &mut canvas, scene, work, stop, steps, pixels)
         }
     }
 }
@@ -213,6 +179,7 @@ pub fn paint_view<S: Stop, L: Ledger>(
     ensures counts { S.yeses stop.old ≤ S.yeses stop.new }
     ensures ok { OnOk result
         (pixels.new ≡ pixels.old ++ pixels_of view.now.w view.now.h (pixel symbols.now view.now)) }
+    ensures quiet { OnOk result (S.yeses stop.new ≡ S.yeses stop.old) }
     ensures err { IfErr result (λ e. StopCause e (S.yeses stop.old) (S.yeses stop.new)) }
     ensures cost { steps.new ≤ steps.old + view_cost view.now symbols.now }
 {
@@ -222,9 +189,13 @@ pub fn paint_view<S: Stop, L: Ledger>(
     let layer = input.layer();
     match layer.contents() {
         LayerContents::Text(table) => {
-            paint_table(
-                alloc, table, symbols, &mask, view, &mut work, stop, steps, pixels,
-            )?;
+            let scene = Scene {
+                table,
+                symbols,
+                mask: &mask,
+                view,
+            };
+            paint_scene(alloc, &scene, &mut work, stop, steps, pixels)?;
             Ok(())
         }
         LayerContents::Grid(cells) => {

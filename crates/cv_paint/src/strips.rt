@@ -41,6 +41,7 @@ fn paint_rect<S: Stop, L: Ledger>(
     ensures counts { S.yeses stop.old ≤ S.yeses stop.new }
     ensures ok { OnOk result
         (pixels.new ≡ pixels.old ++ rect_pixels (pixel symbols.now view.now) rect) }
+    ensures quiet { OnOk result (S.yeses stop.new ≡ S.yeses stop.old) }
     ensures err { IfErr result (λ e. StopCause e (S.yeses stop.old) (S.yeses stop.new)) }
     ensures cost { steps.new ≤ steps.old + rect_cost symbols.now rect }
 {
@@ -66,6 +67,7 @@ fn paint_some<S: Stop, L: Ledger>(
     ensures counts { S.yeses stop.old ≤ S.yeses stop.new }
     ensures ok { OnOk result (pixels.new ≡ pixels.old
         ++ option_map_or (rect_pixels (pixel symbols.now view.now)) rect []) }
+    ensures quiet { OnOk result (S.yeses stop.new ≡ S.yeses stop.old) }
     ensures err { IfErr result (λ e. StopCause e (S.yeses stop.old) (S.yeses stop.new)) }
     ensures cost { steps.new ≤ steps.old + option_map_or (rect_cost symbols.now) rect 0 }
 {
@@ -96,6 +98,7 @@ pub fn strips_painted<S: Stop, L: Ledger>(
     requires { LieInView view.now strips.now }
     ensures counts { S.yeses stop.old ≤ S.yeses stop.new }
     ensures ok { IfOk result (λ made. made ≡ strip_pixels (pixel input.now.parts view.now) strips.now) }
+    ensures quiet { OnOk result (S.yeses stop.new ≡ S.yeses stop.old) }
     ensures err { IfErr result (λ e. StopCause e (S.yeses stop.old) (S.yeses stop.new)) }
     ensures cost { steps.new ≤ steps.old + most_steps input.now.parts strips.now }
 {
@@ -126,6 +129,7 @@ pub fn paint_strips<S: Stop, L: Ledger>(
       painting = record { input = piece.now.input; view = piece.now.view };
       strips = strips.now;
     }) }
+    ensures quiet { OnOk result (S.yeses stop.new ≡ S.yeses stop.old) }
     ensures err { IfErr result (λ e. StopCause e (S.yeses stop.old) (S.yeses stop.new)) }
     ensures cost { steps.new ≤ steps.old + most_steps piece.now.input.parts strips.now }
 {

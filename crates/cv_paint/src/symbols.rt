@@ -8,10 +8,12 @@ ghost use Rattle.cv_model.specs.Texts.{joined_in, feature_symbol};
 ghost use Rattle.cv_layer.specs.Layers.{contents_seen};
 ghost use Rattle.cv_paint.specs.Finish.{StopCause};
 ghost use Rattle.cv_paint.specs.Symbols.{given_by, symbol_by, text_at, column_of, joined_symbol, field_of};
-ghost use Rattle.cv_paint.specs.Symbols.{IsRuleOf};
+ghost use Rattle.cv_paint.specs.Symbols.{IsRuleOf, AreSymbols};
+ghost use Rattle.cv_paint.specs.Widths.{IsWidest};
 
 use crate::error::PaintError;
 use crate::texts::column;
+use crate::widths::widest_of;
 use cv_layer::{FeatureRow, LayerContents, LayerInput, Table};
 use cv_model::{Class, Field, NoMemory, Style, Symbol, Text};
 use cv_outside::Stop;
@@ -152,6 +154,7 @@ fn joined_symbols<'a, S: Stop>(
     ensures counts { S.yeses stop.old ≤ S.yeses stop.new }
     ensures ok { IfOk result (λ made. (q : List ℕ)
         → given_by made q ≡ joined_symbol rule.now key column table.now.features q) }
+    ensures quiet { OnOk result (S.yeses stop.new ≡ S.yeses stop.old) }
     ensures err { IfErr result (λ e. StopCause e (S.yeses stop.old) (S.yeses stop.new)) }
 {
     let rows = table.rows();
@@ -180,6 +183,7 @@ fn joined_rule<'a, S: Stop>(
     ensures counts { S.yeses stop.old ≤ S.yeses stop.new }
     ensures ok { IfOk result (λ made. (text : Option (List ℕ)) → symbol_by made text
         ≡ symbol_by rule.now (option_and_then (joined_in (contents_seen there.now) key.now name.now) text)) }
+    ensures quiet { OnOk result (S.yeses stop.new ≡ S.yeses stop.old) }
     ensures err { IfErr result (λ e. StopCause e (S.yeses stop.old) (S.yeses stop.new)) }
 {
     let other = symbol_by(rule, None);
@@ -225,6 +229,7 @@ pub struct Symbols<'a> {
     input: &'a LayerInput,
     column: Option<usize>,
     rule: Rule<'a>,
+    widest: u32,
 }
 
 impl<'a> Model for Symbols<'a> {
@@ -233,10 +238,12 @@ impl<'a> Model for Symbols<'a> {
     ghost Value = { Parts };
 
     ghost use Rattle.cv_paint.specs.Symbols.{AreSymbols};
+    ghost use Rattle.cv_paint.specs.Widths.{IsWidest};
 
     ghost view = { λ s. s.input.now.parts };
 
-    ghost invariant = { λ s. AreSymbols s.input.now.parts s.column s.rule };
+    ghost invariant = { λ s. AreSymbols s.input.now.parts s.column s.rule
+        × IsWidest s.input.now.parts.own.style s.widest };
 }
 
 impl<'a> Symbols<'a> {
@@ -248,26 +255,19 @@ impl<'a> Symbols<'a> {
     ) -> Result<Symbols<'a>, PaintError>
         ensures counts { S.yeses stop.old ≤ S.yeses stop.new }
         ensures ok { IfOk result (λ made. made ≡ input.now.parts) }
+        ensures quiet { OnOk result (S.yeses stop.new ≡ S.yeses stop.old) }
         ensures err { IfErr result (λ e. StopCause e (S.yeses stop.old) (S.yeses stop.new)) }
     {
         let style = input.layer().style();
         let rule = rule_of(alloc, style)?;
         let Some(field) = field_of(style) else {
-            return Ok(Symbols {
-                input,
-                column: None,
-                rule,
-            });
+            return Ok(Symbols::by_rule(input, None, rule));
         };
         if field.joined {
             return Symbols::by_join(alloc, input, field, rule, stop);
         }
         let column = column_of(input.layer().contents(), &field.name);
-        Ok(Symbols {
-            input,
-            column,
-            rule,
-        })
+        Ok(Symbols::by_rule(input, column, rule))
     }
 
     /// The symbols by a field of the join layer.
@@ -283,29 +283,32 @@ impl<'a> Symbols<'a> {
         requires rule { IsRuleOf input.now.parts.own.style rule }
         ensures counts { S.yeses stop.old ≤ S.yeses stop.new }
         ensures ok { IfOk result (λ made. made ≡ input.now.parts) }
+        ensures quiet { OnOk result (S.yeses stop.new ≡ S.yeses stop.old) }
         ensures err { IfErr result (λ e. StopCause e (S.yeses stop.old) (S.yeses stop.new)) }
     {
         let Some(join) = input.layer().join() else {
-            return Ok(Symbols {
-                input,
-                column: None,
-                rule,
-            });
+            return Ok(Symbols::by_rule(input, None, rule));
         };
         let Some(there) = input.join() else {
-            return Ok(Symbols {
-                input,
-                column: None,
-                rule,
-            });
+            return Ok(Symbols::by_rule(input, None, rule));
         };
         let rule = joined_rule(alloc, there.contents(), &join.key, &field.name, &rule, stop)?;
         let column = column_of(input.layer().contents(), &join.local);
-        Ok(Symbols {
+        Ok(Symbols::by_rule(input, column, rule))
+    }
+
+    /// The symbols that a rule gives to the texts in a column.
+    fn by_rule(input: &'a LayerInput, column: Option<usize>, rule: Rule<'a>) -> Symbols<'a>
+        requires { AreSymbols input.now.parts column rule }
+        ensures { result ≡ input.now.parts }
+    {
+        let widest = widest_of(input.layer().style());
+        Symbols {
             input,
             column,
             rule,
-        })
+            widest,
+        }
     }
 
     /// What the layer is painted from.
@@ -320,5 +323,12 @@ impl<'a> Symbols<'a> {
         ensures { option_copied result ≡ feature_symbol self.now row.now }
     {
         symbol_by(&self.rule, text_at(row, self.column))
+    }
+
+    /// The width of the widest symbol that the layer's style can give, in pixels; 1 where there is none.
+    pub fn widest(&self) -> u32
+        ensures { IsWidest self.now.own.style result }
+    {
+        self.widest
     }
 }

@@ -1,6 +1,6 @@
 //! A layer painted at a view.
 
-ghost use Rattle.std.specs.Prelude.{◌≡◌, ◌<◌, ◌≤◌, IfOk, IfErr};
+ghost use Rattle.std.specs.Prelude.{◌≡◌, ◌<◌, ◌≤◌, OnOk, IfOk, IfErr};
 ghost use Rattle.cv_model.specs.Pictures.{pixel};
 ghost use Rattle.cv_model.specs.Rasters.{pixels_of};
 ghost use Rattle.cv_paint.specs.Finish.{StopCause};
@@ -43,6 +43,7 @@ fn pixels_painted<S: Stop, L: Ledger>(
     ensures counts { S.yeses stop.old ≤ S.yeses stop.new }
     ensures ok { IfOk result
         (λ made. made ≡ pixels_of view.now.w view.now.h (pixel input.now.parts view.now)) }
+    ensures quiet { OnOk result (S.yeses stop.new ≡ S.yeses stop.old) }
     ensures err { IfErr result (λ e. StopCause e (S.yeses stop.old) (S.yeses stop.new)) }
 {
     let whole = whole_of(view);
@@ -62,6 +63,7 @@ pub fn paint<S: Stop>(
     ensures counts { S.yeses stop.old ≤ S.yeses stop.new }
     ensures ok { IfOk result
         (λ painted. painted ≡ record { input = piece.now.input; view = piece.now.view }) }
+    ensures quiet { OnOk result (S.yeses stop.new ≡ S.yeses stop.old) }
     ensures err { IfErr result (λ e. StopCause e (S.yeses stop.old) (S.yeses stop.new)) }
 {
     paint_counted::<S, Brand>(alloc, piece, stop, Blank::new(1))
@@ -80,6 +82,7 @@ fn paint_counted<S: Stop, L: Ledger>(
     ensures counts { S.yeses stop.old ≤ S.yeses stop.new }
     ensures ok { IfOk result
         (λ painted. painted ≡ record { input = piece.now.input; view = piece.now.view }) }
+    ensures quiet { OnOk result (S.yeses stop.new ≡ S.yeses stop.old) }
     ensures err { IfErr result (λ e. StopCause e (S.yeses stop.old) (S.yeses stop.new)) }
 {
     let mut steps = Steps::<L>::of(blank);

@@ -1,5 +1,5 @@
--- What a scan holds: marks that are put one after the other, in a list and in a plane.
-use Rattle.std.proofs.Common.{◌≡◌, ◌∙◌, sym, ap, refl, ℕ, ◌+◌, ◌-◌, ◌%◌, ◌<◌, ◌≤◌, nat_lt, ◌==◌, inl, inr, Bool, true, false, length, cond, ◌&&◌, ◌||◌, if◌then◌else◌, List, [], ◌∷◌, ◌++◌, arith}
+-- What a scan holds: marks that are put one after the other, by rows, in a list and in a plane.
+use Rattle.std.proofs.Common.{◌≡◌, ◌∙◌, sym, ap, refl, ℕ, ◌+◌, ◌-◌, ◌%◌, ◌<◌, ◌≤◌, nat_lt, ◌==◌, inl, inr, Bool, true, false, length, cond, ◌&&◌, ◌||◌, if◌then◌else◌, List, [], ◌∷◌, ◌++◌, All, arith}
 use Rattle.std.proofs.lemmas.Bool.Decides.{nat_tests}
 use Rattle.std.proofs.lemmas.List.Elements.{All-nil, All-cons, All-append}
 use Rattle.cv_geom.specs.Falls.{FallsAt}
@@ -13,9 +13,11 @@ use Rattle.cv_scan.specs.declared.marks.Mark.{Mark}
 use Rattle.cv_scan.specs.declared.scratch.Scratch.{Scratch}
 use Rattle.cv_scan.specs.Marks.{is_right, marks_right, MarkIn}
 use Rattle.cv_scan.specs.Planes.{HoldMarks, bit_of, bits_right, width_of}
-use Rattle.cv_scan.specs.Held.{AddsMarks, IsHeld, held_right}
+use Rattle.cv_scan.specs.Pairs.{PairsIn, PutsMark, pairs_right}
+use Rattle.cv_scan.specs.Held.{AddsMarks, IsHeld, held_right, crossed_before}
 use Rattle.cv_scan.proofs.MarkLemmas.{level-crossed, right-append, right-cons, to_count}
 use Rattle.cv_scan.proofs.PlaneLemmas.{empty-none, right-same}
+use Rattle.cv_scan.proofs.PairLemmas.{empty-right, no-pairs}
 
 -- ---- marks that are put one after the other
 
@@ -63,13 +65,39 @@ adds-none area s held = record { held = held; counted = λ i j is. ap (λ n. n %
     zero-more : (n : ℕ) → n ≡ n + 0
     zero-more n = omega arith
 
+-- a mark is put with that of its row
+pub mark-paired :
+    (area : Area) (mark : Mark) (old new : Scratch) → MarkIn area mark → IsHeld area old
+    → PutsMark old.first mark old.pairs.items new.pairs.items → new.first ≡ old.first
+    → new.marks.items ≡ old.marks.items → new.bits.items ≡ old.bits.items
+    → AddsMarks (λ i j. if is_right i j mark then 1 else 0) area old new
+mark-paired area mark old new here_in held put first list plane = record {
+  held = record {
+    pairs = record {
+      north = rw first held.pairs.north;
+      south = omega (arith, put.length, first, held.pairs.south);
+      east = put.reaches area.columns.end here_in.east held.pairs.east;
+    };
+    within = rw list held.within;
+    room = rw plane held.room;
+  };
+  counted = λ i j is.
+      let more = put.right i j in
+      let from = ap (λ n. pairs_right i j n new.pairs.items) first in
+      let marks = ap (marks_right i j) list in
+      let bits = ap (bits_right i j area) plane in
+      ap (λ n. n % 2) (omega arith);
+}
+
 -- a mark is put in the list, once there is room
 pub mark-put :
     (area : Area) (mark : Mark) (old now new : Scratch) → MarkIn area mark → AddsMarks (λ i j. 0) area old now
     → new.marks.items ≡ now.marks.items ++ mark ∷ [] → new.bits.items ≡ now.bits.items
+    → new.first ≡ now.first → new.pairs.items ≡ now.pairs.items
     → AddsMarks (λ i j. if is_right i j mark then 1 else 0) area old new
-mark-put area mark old now new here_in room put same = record {
+mark-put area mark old now new here_in room put same first pairs = record {
   held = record {
+    pairs = rw (first, pairs) room.held.pairs;
     within =
         rw put
         (All-append (MarkIn area) now.marks.items (mark ∷ []) room.held.within
@@ -80,6 +108,7 @@ mark-put area mark old now new here_in room put same = record {
       let split = ap (marks_right i j) put ∙ right-append i j now.marks.items (mark ∷ []) in
       let one = right-cons i j mark [] in
       let bits = ap (bits_right i j area) same in
+      let rows = ap (λ n. pairs_right i j n new.pairs.items) first ∙ ap (pairs_right i j now.first) pairs in
       let before = room.counted i j is in
       let here = counts (is_right i j mark) in
       omega arith;
@@ -91,16 +120,39 @@ mark-put area mark old now new here_in room put same = record {
 
 -- the marks of the list are brought into the plane
 pub list-emptied :
-    (area : Area) (old new : Scratch) (plane : List ℕ) → ((place : ℕ) → bit_of plane place ≡ bit_of old.bits.items place)
+    (area : Area) (old new : Scratch) (plane : List ℕ) → PairsIn area old.first old.pairs.items
+    → ((place : ℕ) → bit_of plane place ≡ bit_of old.bits.items place)
     → HoldMarks area old.marks.items plane new.bits.items → new.marks.items ≡ []
+    → new.first ≡ old.first → new.pairs.items ≡ old.pairs.items
     → AddsMarks (λ i j. 0) area old new
-list-emptied area old new plane same changed none = record {
-  held = record { within = rw none (All-nil (MarkIn area)); room = inr changed.room };
+list-emptied area old new plane lies same changed none first pairs = record {
+  held = record { pairs = rw (first, pairs) lies; within = rw none (All-nil (MarkIn area)); room = inr changed.room };
   counted = λ i j is.
       let odd = changed.odd i j is in
       let bits = right-same plane old.bits.items area j (i - area.columns.from) (width_of area) same in
       let empty = ap (marks_right i j) none in
+      let rows = ap (λ n. pairs_right i j n new.pairs.items) first ∙ ap (pairs_right i j old.first) pairs in
       omega arith;
+}
+
+-- the marks by rows are brought into the list
+pub pairs-emptied :
+    (area : Area) (old new : Scratch) → IsHeld area old → All (MarkIn area) new.marks.items
+    → ((i j : ℕ) → IsIn area i j
+    → marks_right i j new.marks.items ≡ marks_right i j old.marks.items + pairs_right i j old.first old.pairs.items)
+    → new.first ≡ old.first → new.pairs.items ≡ [] → new.bits.items ≡ old.bits.items
+    → AddsMarks (λ i j. 0) area old new
+pairs-emptied area old new held within listed first none plane = record {
+  held = record {
+    pairs = rw (first, none) (no-pairs area old.first old.pairs.items held.pairs);
+    within = within;
+    room = rw plane held.room;
+  };
+  counted = λ i j is.
+      let told = listed i j is in
+      let rows = ap (pairs_right i j new.first) none ∙ empty-right i j new.first in
+      let bits = ap (bits_right i j area) plane in
+      ap (λ n. n % 2) (omega arith);
 }
 
 -- ---- the marks of an edge, row by row
@@ -112,9 +164,9 @@ plus-zero n k none = ap (λ m. m % 2) (omega arith)
 pub marks-row :
     (v : PixelGrid) (a b : Position) (area : Area) (row column : ℕ) (first old new : Scratch)
     → FallsAt (λ i. is_crossed (centre_of v i row) (a, b)) area.columns.from area.columns.end column
-    → AddsMarks (λ i j. if nat_lt j row then (if is_crossed (centre_of v i j) (a, b) then 1 else 0) else 0) area first old
+    → AddsMarks (crossed_before v a b row) area first old
     → AddsMarks (λ i j. if is_right i j (record { row = row; column = column }) then 1 else 0) area old new
-    → AddsMarks (λ i j. if nat_lt j (row + 1) then (if is_crossed (centre_of v i j) (a, b) then 1 else 0) else 0) area first new
+    → AddsMarks (crossed_before v a b (row + 1)) area first new
 marks-row v a b area row column first old new falls before added = record {
   held = added.held;
   counted = λ i j here.
@@ -154,7 +206,7 @@ pub marks-none :
     (v : PixelGrid) (a b : Position) (area : Area) (row : ℕ) (s : Scratch) → IsHeld area s
     → ((j : ℕ) → area.rows.from ≤ j → j < row
     → is_low (centre_of v 0 j) (doubled a) ≡ is_low (centre_of v 0 j) (doubled b))
-    → AddsMarks (λ i j. if nat_lt j row then (if is_crossed (centre_of v i j) (a, b) then 1 else 0) else 0) area s s
+    → AddsMarks (crossed_before v a b row) area s s
 marks-none v a b area row s held level = record {
   held = held;
   counted = λ i j here. pick i j (nat_lt j row) refl here.north;
@@ -174,7 +226,7 @@ pub marks-all :
     (v : PixelGrid) (a b : Position) (area : Area) (row : ℕ) (old new : Scratch)
     → ((j : ℕ) → row ≤ j → j < area.rows.end
     → is_low (centre_of v 0 j) (doubled a) ≡ is_low (centre_of v 0 j) (doubled b))
-    → AddsMarks (λ i j. if nat_lt j row then (if is_crossed (centre_of v i j) (a, b) then 1 else 0) else 0) area old new
+    → AddsMarks (crossed_before v a b row) area old new
     → AddsMarks (λ i j. if is_crossed (centre_of v i j) (a, b) then 1 else 0) area old new
 marks-all v a b area row old new level told = record {
   held = told.held;
@@ -194,11 +246,15 @@ marks-all v a b area row old new level told = record {
 -- ---- what is inside
 
 -- a scan that holds nothing
-pub none-held : (area : Area) (s : Scratch) → s.marks.items ≡ [] → s.bits.items ≡ [] → IsHeld area s
-none-held area s list plane = record { within = rw list (All-nil (MarkIn area)); room = inl plane }
+pub none-held :
+    (area : Area) (s : Scratch) → PairsIn area s.first s.pairs.items → s.marks.items ≡ [] → s.bits.items ≡ []
+    → IsHeld area s
+none-held area s lies list plane = record { pairs = lies; within = rw list (All-nil (MarkIn area)); room = inl plane }
 
-pub none-right : (area : Area) (s : Scratch) (i j : ℕ) → s.marks.items ≡ [] → s.bits.items ≡ [] → held_right i j area s ≡ 0
-none-right area s i j list plane =
+pub none-right :
+    (area : Area) (s : Scratch) (i j : ℕ) → pairs_right i j s.first s.pairs.items ≡ 0 → s.marks.items ≡ []
+    → s.bits.items ≡ [] → held_right i j area s ≡ 0
+none-right area s i j pairs list plane =
     let first = ap (marks_right i j) list in
     let second = ap (bits_right i j area) plane ∙ empty-none area j (i - area.columns.from) (width_of area) in
     omega arith
@@ -208,19 +264,36 @@ pub no-words : (words : List ℕ) → length words ≡ 0 → words ≡ []
 no-words [] none = refl
 no-words (word ∷ words) none = absurd (omega arith)
 
--- where there is no plane, the list tells all
-pub list-alone :
-    (area : Area) (s : Scratch) (i j : ℕ) → s.bits.items ≡ [] → held_right i j area s ≡ marks_right i j s.marks.items
-list-alone area s i j plane =
+-- nor are no marks a list of some
+pub no-marks : (marks : List Mark) → length marks ≡ 0 → marks ≡ []
+no-marks [] none = refl
+no-marks (mark ∷ marks) none = absurd (omega arith)
+
+-- where there is neither list nor plane, the rows tell all
+pub rows-alone :
+    (area : Area) (s : Scratch) (i j : ℕ) → s.marks.items ≡ [] → s.bits.items ≡ []
+    → held_right i j area s ≡ pairs_right i j s.first s.pairs.items
+rows-alone area s i j list plane =
     let none = ap (bits_right i j area) plane ∙ empty-none area j (i - area.columns.from) (width_of area) in
+    let no = ap (marks_right i j) list in
     omega arith
 
--- and where the list is empty, the plane does, in the number's last bit
+-- where there are neither rows nor plane, the list does
+pub list-alone :
+    (area : Area) (s : Scratch) (i j : ℕ) → s.pairs.items ≡ [] → s.bits.items ≡ []
+    → held_right i j area s ≡ marks_right i j s.marks.items
+list-alone area s i j pairs plane =
+    let none = ap (bits_right i j area) plane ∙ empty-none area j (i - area.columns.from) (width_of area) in
+    let no = ap (pairs_right i j s.first) pairs ∙ empty-right i j s.first in
+    omega arith
+
+-- and where there are neither rows nor list, the plane does, in the number's last bit
 pub plane-alone :
     (area : Area) (old new : Scratch) (i j : ℕ) → IsIn area i j → AddsMarks (λ i j. 0) area old new
-    → new.marks.items ≡ [] → bits_right i j area new.bits.items % 2 ≡ held_right i j area old % 2
-plane-alone area old new i j is same list =
+    → new.pairs.items ≡ [] → new.marks.items ≡ [] → bits_right i j area new.bits.items % 2 ≡ held_right i j area old % 2
+plane-alone area old new i j is same pairs list =
     let first = ap (marks_right i j) list in
+    let no = ap (pairs_right i j new.first) pairs ∙ empty-right i j new.first in
     let told = same.counted i j is in
     omega arith
 
@@ -236,13 +309,13 @@ adds-alike test other area old new same added = record {
 -- marks of crossings that were put with none tell what is inside
 pub marks-inside :
     (test : ℕ → ℕ → Bool) (crossed : ℕ → ℕ → ℕ) (area : Area) (first s : Scratch) (old new : List Run)
-    → ((i j : ℕ) → test i j ≡ (crossed i j % 2 == 1)) → first.marks.items ≡ [] → first.bits.items ≡ []
+    → ((i j : ℕ) → test i j ≡ (crossed i j % 2 == 1)) → ((i j : ℕ) → held_right i j area first ≡ 0)
     → AddsMarks crossed area first s → Adds (λ i j. held_right i j area s % 2 == 1) area old new
     → Adds test area old new
-marks-inside test crossed area first s old new told list plane marked added =
+marks-inside test crossed area first s old new told empty marked added =
     adds-alike (λ i j. held_right i j area s % 2 == 1) test area old new
     (λ i j here.
-    let none = none-right area first i j list plane in
+    let none = empty i j in
     let count = marked.counted i j here in
     let same : held_right i j area s % 2 ≡ crossed i j % 2 = omega arith in
     ap (λ n. n == 1) same ∙ sym (told i j))

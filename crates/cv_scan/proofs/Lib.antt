@@ -5,6 +5,7 @@ pub mod MarkLemmas
 pub mod OrderLemmas
 pub mod CrossingLemmas
 pub mod PlaneLemmas
+pub mod PairLemmas
 pub mod HeldLemmas
 pub mod TermLemmas
 pub mod BlockLemmas

@@ -84,7 +84,7 @@ none-right i j a (b ∷ rest) falls behind =
     not-right (inr same) = let most = same.1 in grind (arith, nat_tests)
 
 -- a run that may be empty has its columns
-between-on : (i j row from end : ℕ) → is_on_any i j (run_between row from end) ≡ ((j == row) && (nat_le from i && nat_lt i end))
+pub between-on : (i j row from end : ℕ) → is_on_any i j (run_between row from end) ≡ ((j == row) && (nat_le from i && nat_lt i end))
 between-on i j row from end = pick (nat_lt from end) refl
   where
     pick :
@@ -225,7 +225,7 @@ runs-some i j from a (b ∷ c ∷ rest) west falls =
     (runs-some i j from b (c ∷ rest) west falls.1) (runs-some i j from c rest west falls.1.1)
 
 -- they lie in the area of the marks
-between-in :
+pub between-in :
     (area : Area) (row from end : ℕ) → area.rows.from ≤ row → row < area.rows.end → area.columns.from ≤ from
     → end ≤ area.columns.end → All (LiesIn area) (run_between row from end)
 between-in area row from end north south west east = pick (nat_lt from end) refl

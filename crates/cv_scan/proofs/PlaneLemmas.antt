@@ -481,7 +481,7 @@ rows-done test area row old new all told = record {
       told.covered i j here ∙ ap (λ b. is_on_any i j old || (b && test i j)) yes;
 }
 
-row-more :
+pub row-more :
     (test : ℕ → ℕ → Bool) (area : Area) (row : ℕ) (odd : ℕ → ℕ → Bool) (first old new : List Run)
     → ((i j : ℕ) → IsIn area i j → odd i j ≡ ((j == row) && test i j))
     → Adds (λ i j. nat_lt j row && test i j) area first old → Adds odd area old new

@@ -1,5 +1,5 @@
 -- Terms: what the place of a crossing tells of a row, and of the row below.
-use Rattle.std.proofs.Common.{◌≡◌, ◌∙◌, sym, ap, refl, ℕ, ◌+◌, ◌*◌, ◌<◌, ◌≤◌, nat_lt, Bool, true, false, ℤ, pos, negsuc, neg_ℤ, ◌+ℤ◌, ◌-ℤ◌, ◌*ℤ◌, ◌≤ℤ◌, ◌<ℤ◌, int_le, int_lt, arith}
+use Rattle.std.proofs.Common.{◌≡◌, ◌∙◌, sym, ap, refl, ℕ, ◌+◌, ◌*◌, ◌^◌, ◌<◌, ◌≤◌, unsigned_abs, nat_lt, Bool, true, false, ℤ, pos, negsuc, neg_ℤ, ◌+ℤ◌, ◌-ℤ◌, ◌*ℤ◌, ◌≤ℤ◌, ◌<ℤ◌, int_le, int_lt, arith}
 use Rattle.std.proofs.Math.IntN.{*ℤ_comm}
 use Rattle.std.proofs.lemmas.Int.{ints}
 use Rattle.std.proofs.lemmas.Bool.Decides.{nat_tests}
@@ -190,8 +190,8 @@ at-least z held = grind (arith, ints)
 pub less-is : (x y : ℤ) → int_lt x y ≡ true → x <ℤ y
 less-is x y h = grind (arith, ints)
 
-pub below-zero : (z : ℤ) → int_le (pos 0) z ≡ false → z <ℤ pos 0
-below-zero z failed = grind (arith, ints)
+pub not-below : (z : ℤ) → int_lt z (pos 0) ≡ false → pos 0 ≤ℤ z
+not-below z failed = grind (arith, ints)
 
 -- an end that is low lies at most as high as one that isn't
 pub ends-rise : (p a b : Position) → is_low p a ≡ true → is_low p b ≡ false → a.y ≤ℤ b.y
@@ -202,11 +202,12 @@ ends-rise p a b low_is high_isnt = grind (arith, ints)
 pub slope-is :
     (v : PixelGrid) (a b : Position) (columns shift part whole : ℤ) → whole ≡ side_of v *ℤ (b.y -ℤ a.y)
     → shift ≡ columns *ℤ side_of v → part ≡ neg_ℤ ((b.x -ℤ a.x) *ℤ side_of v) -ℤ shift *ℤ (b.y -ℤ a.y)
-    → pos 0 ≤ℤ part → part <ℤ whole
+    → pos 0 ≤ℤ part → part <ℤ whole → unsigned_abs columns ≤ 2 ^ 29
     → IsSlope v a b (record { columns = columns; part = part; whole = whole })
-slope-is v a b columns shift part whole whole_is shift_is part_is low high = record {
+slope-is v a b columns shift part whole whole_is shift_is part_is low high few = record {
   whole = whole_is;
   moves = part_is ∙ ap (λ z. neg_ℤ ((b.x -ℤ a.x) *ℤ side_of v) -ℤ z *ℤ (b.y -ℤ a.y)) shift_is;
   low = low;
   high = high;
+  few = few;
 }

@@ -5,6 +5,7 @@ pub mod Marks
 pub mod Orders
 pub mod Fills
 pub mod Planes
+pub mod Pairs
 pub mod Held
 pub mod Terms
 pub mod Blocks

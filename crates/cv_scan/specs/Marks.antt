@@ -71,3 +71,11 @@ pub record CrossesRows (v : PixelGrid) (a b : Position) (area : Area) (rows : Sp
       → is_low (centre_of v 0 j) (doubled a) ≡ is_low (centre_of v 0 j) (doubled b)
   pub behind : (j : ℕ) → rows.end ≤ j → j < area.rows.end
       → is_low (centre_of v 0 j) (doubled a) ≡ is_low (centre_of v 0 j) (doubled b)
+
+-- rows of an area at whose height the first end of an edge is low and the other isn't
+pub record RisesThrough (v : PixelGrid) (low high : Position) (area : Area) (rows : Span) : Type 0 where
+  pub north : area.rows.from ≤ rows.from
+  pub order : rows.from ≤ rows.end
+  pub south : rows.end ≤ area.rows.end
+  pub ends : (j : ℕ) → rows.from ≤ j → j < rows.end
+      → (is_low (centre_of v 0 j) (doubled low) ≡ true) × (is_low (centre_of v 0 j) (doubled high) ≡ false)

@@ -2,7 +2,7 @@
 --
 -- Source: J. E. Bresenham, Algorithm for computer control of a digital plotter, IBM Systems Journal 4, 1965, for
 -- lines between any points.
-use Rattle.std.specs.Prelude.{ℕ, ◌≡◌, ◌<◌, ◌≤◌, ℤ, pos, neg_ℤ, ◌+ℤ◌, ◌-ℤ◌, ◌*ℤ◌, ◌≤ℤ◌, ◌<ℤ◌}
+use Rattle.std.specs.Prelude.{ℕ, ◌≡◌, ◌<◌, ◌≤◌, ◌^◌, unsigned_abs, ℤ, pos, neg_ℤ, ◌+ℤ◌, ◌-ℤ◌, ◌*ℤ◌, ◌≤ℤ◌, ◌<ℤ◌}
 use Rattle.cv_model.specs.declared.span.Span.{Span}
 use Rattle.cv_model.specs.Positions.{Position}
 use Rattle.cv_model.specs.Views.{PixelGrid, centre_of}
@@ -36,6 +36,7 @@ pub record IsSlope (v : PixelGrid) (a b : Position) (slope : Slope) : Type 0 whe
   pub moves : slope.part ≡ neg_ℤ ((b.x -ℤ a.x) *ℤ side_of v) -ℤ (slope.columns *ℤ side_of v) *ℤ (b.y -ℤ a.y)
   pub low : pos 0 ≤ℤ slope.part
   pub high : slope.part <ℤ slope.whole
+  pub few : unsigned_abs slope.columns ≤ 2 ^ 29
 
 -- a column among some, as near as can be to another number
 pub record IsNearest (columns : Span) (k : ℤ) (column : ℕ) : Type 0 where

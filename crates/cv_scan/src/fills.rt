@@ -103,7 +103,7 @@ fn put_crossed<L: Ledger>(
         (Adds (λ i j. is_inside (centre_of view.now i j) polygon.now) area into.old into.new) }
     ensures cost { steps.new ≤ steps.old + length (flat_map edges polygon.now) * rows_of area }
 {
-    begin(scratch);
+    begin(scratch, polygon, view, sides, area)?;
     put_marks(scratch, polygon, view, sides, area, steps)?;
     put_runs(scratch, area, into)?;
     Ok(())

@@ -14,6 +14,7 @@ mod fills;
 mod held;
 mod marks;
 mod orders;
+mod pairs;
 mod planes;
 mod reaches;
 mod row;

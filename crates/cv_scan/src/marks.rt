@@ -1,21 +1,22 @@
 //! Marks of crossings, each edge read once.
 
 ghost use Rattle.std.specs.Prelude.{◌≡◌, ◌+◌, ◌*◌, ◌≤◌, ◌<◌, ℕ, ◌++◌, ◌==◌, ◌%◌, OnOk, IfSome, length, All};
-ghost use Rattle.std.specs.Prelude.{if◌then◌else◌, None, pos, ◌*ℤ◌, ◌≤ℤ◌, int_le};
+ghost use Rattle.std.specs.Prelude.{if◌then◌else◌, None, pos, ◌*ℤ◌, ◌≤ℤ◌, int_le, unsigned_abs, ◌^◌, ◌-◌};
 ghost use Rattle.std.specs.List.{flat_map};
 ghost use Rattle.cv_model.specs.Positions.{doubled};
 ghost use Rattle.cv_model.specs.Polygons.{edges, crossings, is_crossed};
 ghost use Rattle.cv_model.specs.Views.{centre_of};
 ghost use Rattle.cv_geom.specs.Runs.{Adds, IsArea, rows_of};
-ghost use Rattle.cv_scan.specs.Held.{AddsMarks, IsHeld};
-ghost use Rattle.cv_scan.specs.Marks.{CrossesRows, IsBetween, MarkIn, marks_right, run_between, runs_from};
-ghost use Rattle.cv_scan.specs.Terms.{IsSlope};
+ghost use Rattle.cv_scan.specs.Held.{AddsMarks, IsHeld, MarksOn};
+ghost use Rattle.cv_scan.specs.Marks.{CrossesRows, IsBetween, MarkIn, RisesThrough, marks_right};
+ghost use Rattle.cv_scan.specs.Marks.{run_between, runs_from};
+ghost use Rattle.cv_scan.specs.Terms.{IsPlace, IsSlope};
 
-use crate::crossings::{columns_between, row_of};
+use crate::crossings::{column_of_crossing, columns_between, row_of};
 use crate::held::put_mark;
 use crate::orders::bring_down;
 use crate::scratch::Scratch;
-use crate::terms::{Place, Slope, column_at, long_slope, next_place};
+use crate::terms::{Place, Slope, below, column_of_place, following, long_slope};
 use cv_geom::{Area, Multiples, Run, Runs, Steps};
 use cv_model::{NoMemory, Point, Polygon, Span, View};
 use std::sync::ledger::Ledger;
@@ -151,8 +152,7 @@ fn put_up<L: Ledger>(
 }
 
 /// Puts the marks of an edge from its lower end up, whose crossings lie between some columns, as `put_edge`.
-/// Where its slope is given they are searched until one is found in the area, and then follow each from the
-/// one before.
+/// They are searched; where its slope is given, until one is found in the area, and the others follow it.
 fn put_rows<L: Ledger>(
     scratch: &mut Scratch,
     low: Point,
@@ -175,13 +175,51 @@ fn put_rows<L: Ledger>(
         scratch.old scratch.new) }
     ensures cost { steps.new ≤ steps.old + rows_of area }
 {
-    let _unit = view.u;
-    let mut place: Option<Place> = None;
     for row in rows.from..rows.end {
         steps.tick();
-        let column = column_at(place, low, high, view, row, area.columns, between);
-        put_mark(scratch, area, Mark { row, column })?;
-        place = next_place(place, slope, low, high, view, row, column);
+        let column = column_of_crossing(low, high, view, row, between);
+        put_mark(scratch, &area, Mark { row, column })?;
+        if let Some((slope, place)) = following(&slope, low, high, view, row, column) {
+            let rest = Span {
+                from: row + 1,
+                end: rows.end,
+            };
+            put_followed(scratch, low, high, view, area, rest, place, &slope, steps)?;
+            return Ok(());
+        }
+    }
+    Ok(())
+}
+
+/// Puts the marks of an edge from its lower end up in some rows, where that of the first is known and each
+/// other one follows from the one above it.
+fn put_followed<L: Ledger>(
+    scratch: &mut Scratch,
+    low: Point,
+    high: Point,
+    view: &View,
+    area: Area,
+    rows: Span,
+    first: Place,
+    slope: &Slope,
+    steps: &mut Steps<L>,
+) -> Result<(), NoMemory>
+    requires area { IsArea view.now.w view.now.h area }
+    requires held { IsHeld area scratch.old }
+    requires rows { RisesThrough view.now low high area rows }
+    requires slope { IsSlope view.now (doubled low) (doubled high) slope.now }
+    requires place { IsPlace view.now (doubled low) (doubled high) rows.from first }
+    requires near { unsigned_abs first.column ≤ 2 ^ 33 }
+    ensures marked { OnOk result (MarksOn view.now low high area rows scratch.old scratch.new) }
+    ensures cost { steps.new ≤ steps.old + (rows.end - rows.from) }
+{
+    let _unit = view.u;
+    let mut place = first;
+    for row in rows.from..rows.end {
+        steps.tick();
+        let column = column_of_place(place, low, high, view, row, area.columns);
+        put_mark(scratch, &area, Mark { row, column })?;
+        place = below(place, slope);
     }
     Ok(())
 }
@@ -222,7 +260,7 @@ pub fn put_pairs(marks: &[Mark], from: u32, into: &mut Runs) -> Result<(), NoMem
 }
 
 /// Puts a run behind others, unless it is empty.
-fn put_run(row: u32, from: u32, end: u32, into: &mut Runs) -> Result<(), NoMemory>
+pub fn put_run(row: u32, from: u32, end: u32, into: &mut Runs) -> Result<(), NoMemory>
     ensures { OnOk result (into.new ≡ into.old ++ run_between row from end) }
 {
     if from < end {

@@ -6,10 +6,8 @@ ghost use Rattle.cv_model.specs.Positions.{Position, doubled};
 ghost use Rattle.cv_model.specs.Polygons.{is_crossed, is_low};
 ghost use Rattle.cv_model.specs.Views.{PixelGrid, centre_of};
 ghost use Rattle.cv_geom.specs.Falls.{FallsAt};
-ghost use Rattle.cv_scan.specs.Marks.{IsBetween};
 ghost use Rattle.cv_scan.specs.Terms.{IsNearest, IsPlace, IsSlope};
 
-use crate::crossings::column_of_crossing;
 use cv_geom::{centre, distance, distance_to, product};
 use cv_model::{Point, Point2, Span, View};
 
@@ -30,13 +28,13 @@ pub struct Slope {
     pub whole: i128,
 }
 
-/// The slope of the line from a point up to another, if it crosses the heights of more than five rows: for
-/// fewer a search in each is faster.
+/// The slope of the line from a point up to another, if it crosses the heights of more than one row: for one
+/// a search alone is faster.
 pub fn long_slope(low: Point, high: Point, view: &View, rows: Span) -> Option<Slope>
     requires { rows.from ≤ rows.end }
     ensures { IfSome result (λ slope. IsSlope view.now (doubled low) (doubled high) slope) }
 {
-    if rows.end - rows.from <= 5 {
+    if rows.end - rows.from <= 1 {
         None
     } else {
         slope_of(low, high, view)
@@ -89,13 +87,18 @@ fn side(view: &View) -> i64
     2 * view.u
 }
 
-/// The columns that a line leads westwards while it leads down by one; none where it doesn't lead up. Whoever
-/// calls it sees by what is over that it is right.
+/// The columns that a line leads westwards while it leads down by one; none where it doesn't lead up, or by
+/// more columns than any view has. Whoever calls it sees by what is over that it is right.
 fn quotient(dx: i64, dy: i64) -> Option<i64>
     requires { unsigned_abs dx ≤ 2 ^ 52 }
+    ensures { IfSome result (λ n. unsigned_abs n ≤ 2 ^ 29) }
 {
-    if 0 < dy {
-        Some((-dx).div_euclid(dy))
+    if dy <= 0 {
+        return None;
+    }
+    let columns = (-dx).div_euclid(dy);
+    if columns.unsigned_abs() <= 1 << 29 {
+        Some(columns)
     } else {
         None
     }
@@ -111,32 +114,26 @@ fn part_of(dx: i64, side: i64, shift: i64, dy: i64) -> i128
     -product(dx, side) - product(shift, dy)
 }
 
-/// The first of some columns whose centre in a row doesn't lie left of the line from a point up to another:
-/// by the place of its crossing if that is known, else by a search between the columns of the points.
-pub fn column_at(
-    place: Option<Place>,
+/// The first of some columns whose centre in a row doesn't lie left of the line from a point up to another,
+/// by the place of its crossing.
+pub fn column_of_place(
+    place: Place,
     low: Point,
     high: Point,
     view: &View,
     row: u32,
     columns: Span,
-    between: Span,
 ) -> u32
     requires row { row < view.now.h }
     requires order { columns.from ≤ columns.end }
-    requires within { columns.end ≤ view.now.w }
-    requires between { IsBetween view.now low high columns between }
     requires low { is_low (centre_of view.now 0 row) (doubled low) ≡ true }
     requires high { is_low (centre_of view.now 0 row) (doubled high) ≡ false }
-    requires place { IfSome place (λ place. IsPlace view.now (doubled low) (doubled high) row place) }
+    requires place { IsPlace view.now (doubled low) (doubled high) row place }
     ensures { FallsAt (λ i. is_crossed (centre_of view.now i row) (low, high))
         columns.from columns.end result }
 {
     let _unit = view.u;
-    match place {
-        Some(place) => nearest(place.column, columns),
-        None => column_of_crossing(low, high, view, row, between),
-    }
+    nearest(place.column, columns)
 }
 
 /// The column among some that is nearest to a number; it may be the end of them.
@@ -153,47 +150,28 @@ fn nearest(column: i64, columns: Span) -> u32
     }
 }
 
-/// The place of a line's crossing with the height of the row below, if it is known: from the one in the row,
-/// or from the column that was found there.
-pub fn next_place(
-    place: Option<Place>,
-    slope: Option<Slope>,
+/// The slope of a line, and the place of its crossing with the height of the row below, if they are known,
+/// from the column that was found in a row.
+pub fn following(
+    slope: &Option<Slope>,
     low: Point,
     high: Point,
     view: &View,
     row: u32,
     column: u32,
-) -> Option<Place>
+) -> Option<(Slope, Place)>
     requires row { row < view.now.h }
-    requires slope { IfSome slope (λ slope. IsSlope view.now (doubled low) (doubled high) slope) }
-    requires place { IfSome place (λ place. IsPlace view.now (doubled low) (doubled high) row place) }
-    ensures { IfSome result (λ place. IsPlace view.now (doubled low) (doubled high) (row + 1) place) }
+    requires slope { IfSome slope.now (λ slope. IsSlope view.now (doubled low) (doubled high) slope) }
+    ensures slope { IfSome result (λ next. IsSlope view.now (doubled low) (doubled high) next.0) }
+    ensures place { IfSome result (λ next. IsPlace view.now (doubled low) (doubled high) (row + 1) next.1) }
+    ensures near { IfSome result (λ next. unsigned_abs next.1.column ≤ 2 ^ 33) }
 {
     let _unit = view.u;
-    let slope = slope?;
-    let here = known_place(place, &slope, low, high, view, row, column)?;
-    below(here, &slope)
-}
-
-/// A place, or that of a column in a row if it is the first one whose centre doesn't lie left of the line.
-fn known_place(
-    place: Option<Place>,
-    slope: &Slope,
-    low: Point,
-    high: Point,
-    view: &View,
-    row: u32,
-    column: u32,
-) -> Option<Place>
-    requires row { row < view.now.h }
-    requires slope { IsSlope view.now (doubled low) (doubled high) slope.now }
-    requires place { IfSome place (λ place. IsPlace view.now (doubled low) (doubled high) row place) }
-    ensures { IfSome result (λ place. IsPlace view.now (doubled low) (doubled high) row place) }
-{
-    match place {
-        Some(place) => Some(place),
-        None => place_of(slope, low, high, view, row, column),
-    }
+    let Some(slope) = slope else {
+        return None;
+    };
+    let here = place_of(slope, low, high, view, row, column)?;
+    Some((*slope, below(here, slope)))
 }
 
 /// The place of a column in a row, if it is the first one whose centre doesn't lie left of the line.
@@ -207,7 +185,8 @@ fn place_of(
 ) -> Option<Place>
     requires row { row < view.now.h }
     requires slope { IsSlope view.now (doubled low) (doubled high) slope.now }
-    ensures { IfSome result (λ place. IsPlace view.now (doubled low) (doubled high) row place) }
+    ensures place { IfSome result (λ place. IsPlace view.now (doubled low) (doubled high) row place) }
+    ensures near { IfSome result (λ place. unsigned_abs place.column ≤ 2 ^ 32) }
 {
     if view.w <= column {
         return None;
@@ -249,29 +228,26 @@ fn rise_at(low: Point, high: Point, p: Point2) -> i128
 }
 
 /// The place in the row below.
-fn below(place: Place, slope: &Slope) -> Option<Place>
+pub fn below(place: Place, slope: &Slope) -> Place
     requires over { pos 0 ≤ℤ place.over }
     requires part { pos 0 ≤ℤ slope.now.part }
     requires whole { pos 0 ≤ℤ slope.now.whole }
-    ensures { (v : PixelGrid) (a b : Position) (row : ℕ) → pos 1 ≤ℤ v.u → IsSlope v a b slope.now
-        → IsPlace v a b row place → IfSome result (λ place. IsPlace v a b (row + 1) place) }
+    requires near { unsigned_abs place.column ≤ 2 ^ 62 + 2 ^ 34 }
+    requires few { unsigned_abs slope.now.columns ≤ 2 ^ 29 }
+    ensures near { unsigned_abs result.column ≤ unsigned_abs place.column + 2 ^ 30 }
+    ensures place { (v : PixelGrid) (a b : Position) (row : ℕ) → pos 1 ≤ℤ v.u → IsSlope v a b slope.now
+        → IsPlace v a b row place → IsPlace v a b (row + 1) result }
 {
-    let column = sum(place.column, slope.columns)?;
+    let column = place.column + slope.columns;
     let over = place.over - slope.part;
-    if 0 <= over {
-        return Some(Place { column, over });
+    if over < 0 {
+        Place {
+            column: column + 1,
+            over: over + slope.whole,
+        }
+    } else {
+        Place { column, over }
     }
-    Some(Place {
-        column: sum(column, 1)?,
-        over: over + slope.whole,
-    })
-}
-
-/// The sum of two numbers, if it is one of 64 bits.
-fn sum(a: i64, b: i64) -> Option<i64>
-    ensures { IfSome result (λ n. n ≡ a +ℤ b) }
-{
-    a.checked_add(b)
 }
 
 /// The product of two numbers, if it is one of 64 bits.

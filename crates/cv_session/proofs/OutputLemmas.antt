@@ -59,7 +59,7 @@ use Rattle.cv_session.specs.Outputs.{IsPut, PreviewEnters, SaveEnters, RefusedWr
 use Rattle.cv_session.specs.Seats.{Seat, now, task_of, tasks_of, IsSeat, Enters, Stands, Obeys}
 use Rattle.cv_session.proofs.PlayLemmas.{same_some, joined}
 use Rattle.cv_session.proofs.WriteLemmas.{last_is_there, name_there, not_refused_yet, files_are_writes}
-use Rattle.cv_session.proofs.SeatLemmas.{seat_goes_on, seat_stands}
+use Rattle.cv_session.proofs.SeatLemmas.{seat_goes_on, seat_stands, stays_same}
 use Rattle.cv_session.proofs.MoveLemmas.{declines_behind, denies}
 use Rattle.cv_session.proofs.ObeyLemmas.{enters, no_canvas, no_job}
 
@@ -307,7 +307,11 @@ pub save_seat : (old new : Seat) (c : â„•) (r : Result Composition SaveError) â†
 save_seat old new c (Ok made) seat known answer notes held refused specs lasts =
     let f = save_enters old new c (Ok made) known answer notes held refused in
     seat_goes_on old new (act.Save c f.0) seat f.1.notes refl refl refl held specs lasts
-save_seat old new c (Err e) seat known answer notes held refused specs lasts = seat_stands old new seat notes held specs lasts
+save_seat old new c (Err save_error.NoMemory) seat known answer notes held refused specs lasts = seat_stands old new seat notes held specs lasts
+save_seat old new c (Err save_error.UnknownCanvas) seat known answer notes held refused specs lasts =
+    seat_stands old new seat (stays_same old.history new.history notes) held specs lasts
+save_seat old new c (Err save_error.Nothing) seat known answer notes held refused specs lasts =
+    seat_stands old new seat (stays_same old.history new.history notes) held specs lasts
 
 -- ---- the commands
 

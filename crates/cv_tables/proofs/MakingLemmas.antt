@@ -175,6 +175,7 @@ made_row c store view g frame kept_store kept is =
         images = kept.images_are ∙ sym (ap (map (painting_shown store view)) kept.slots_are
             ∙ map_map (painting_shown store view) new_slot no_image (λ l. refl) layers);
       };
+      gone = tt;
       layers = ap (map slot_layer) kept.slots_are ∙ map_map slot_layer new_slot layer_id (λ l. refl) layers;
       short = subst (λ n. n ≤ 32) (sym (ap length kept.slots_are ∙ size_map new_slot layers)) (few_slots store view kept_store);
     }

@@ -1,7 +1,7 @@
 -- What a job keeps of its slots, and what changes leave of it.
 use Rattle.std.proofs.Common.{◌≡◌, ◌∙◌, sym, ap, refl, subst, ℕ, zero, suc, ◌+◌, ◌<◌, ◌≤◌, Bool, true, false, ◌||◌}
 use Rattle.std.proofs.Common.{List, [], ◌∷◌, ◌++◌, length, map, find, Option, Some, None, option_map, option_and_then}
-use Rattle.std.proofs.Common.{slice_get, slice_set, slice_index_or, take, drop, IsSomeAnd, arith, if◌then◌else◌, cond, is_some}
+use Rattle.std.proofs.Common.{slice_get, slice_set, slice_index_or, take, drop, IsSomeAnd, IfSome, arith, if◌then◌else◌, cond, is_some}
 use Rattle.std.specs.List.{AllZip}
 use Rattle.std.specs.Option.{option_or, option_map_or}
 use Rattle.std.proofs.lemmas.Bool.Decides.{nat_tests}
@@ -118,6 +118,7 @@ stood row held at standing slot there was unready kept = record {
       (map_change (painting_shown row.store row.view) (slot_stands standing) row.slots at slot there
       (shown_none row.store row.view (slot_stands standing slot) unready ∙ sym (shown_none row.store row.view slot was)))
       kept.live;
+  gone = kept.gone;
   layers = map_change_all slot_layer (slot_stands standing) row.slots at (λ x. refl) ∙ kept.layers;
   short = subst (λ n. n ≤ 32) (sym (length_change (slot_stands standing) row.slots at)) kept.short;
 }
@@ -129,6 +130,7 @@ pub readied : (row : Row) (o : Option HoldingParts) (held new : HoldingParts) (a
     → IsRow (row_stands at Ready row) (Some new)
 readied row o held new at p slot is there painted none made kept = record {
   live = by row.ended;
+  gone = subst (λ e. IfSome e (λ how. Some new ≡ None)) (sym none) tt;
   layers = map_change_all slot_layer (slot_stands Ready) row.slots at (λ x. refl) ∙ kept.layers;
   short = subst (λ n. n ≤ 32) (sym (length_change (slot_stands Ready) row.slots at)) kept.short;
 }
@@ -194,6 +196,7 @@ edited_kept row held e kept =
           held_same row (record row { slots = slots_edited row.store e row.slots }) held refl refl refl
           (map_map_same (input_of row.store) (slot_edited p e) row.slots (λ x. refl))
           (map_map_same (painting_shown row.store row.view) (slot_edited p e) row.slots (λ x. refl)) kept.live;
+      gone = kept.gone;
       layers = map_map_same slot_layer (slot_edited p e) row.slots (λ x. refl) ∙ kept.layers;
       short = subst (λ n. n ≤ 32) (sym (length_map (slot_edited p e) row.slots)) kept.short;
     }

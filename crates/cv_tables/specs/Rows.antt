@@ -4,7 +4,7 @@
 -- each layer. All rules are this project's own.
 use Rattle.std.specs.Prelude.{◌≡◌, ℕ, zero, suc, ◌+◌, ◌≤◌, ◌==◌, Bool, true, false, ◌||◌, if◌then◌else◌}
 use Rattle.std.specs.Prelude.{List, [], ◌∷◌, ◌++◌, map, length, slice_get, Option, Some, None, is_some}
-use Rattle.std.specs.Prelude.{option_map, option_and_then, IsSomeAnd}
+use Rattle.std.specs.Prelude.{option_map, option_and_then, IsSomeAnd, IfSome}
 use Rattle.std.specs.List.{AllByRecursion}
 use Rattle.std.specs.Option.{option_or}
 use Rattle.cv_model.specs.declared.edit.Edit.{Edit}
@@ -276,10 +276,11 @@ slot_layer slot = slot.layer
 abbrev pub layer_id : Layer → ℕ
 layer_id layer = layer.core.id
 
--- what a job keeps: its slots are its project's at its view, at most 32, and while it has no end all of it is
--- held
+-- what a job keeps: its slots are its project's at its view, at most 32; while it has no end all of it is held, and
+-- once it has one, nothing, so that its images are given up
 pub record IsRow (row : Row) (held : Option HoldingParts) : Type 0 where
   pub live : WhileLive row.ended (IsSomeAnd held (HoldsAll row))
+  pub gone : IfSome row.ended (λ how. held ≡ None)
   pub layers : map slot_layer row.slots ≡ map layer_id (slots (project_of row.store) row.view)
   pub short : length row.slots ≤ 32
 

@@ -12,7 +12,7 @@ ghost use Rattle.cv_top.specs.Runs.{Untouched, IsWritten, Obeys};
 ghost use Rattle.cv_top.specs.Words.{paint_words};
 
 use crate::orders::{Order, PaintOrder};
-use crate::pictures::write_picture;
+use crate::pictures::write_last_picture;
 use cv_model::NoMemory;
 use cv_open::{End, Opened, Shown, open_canvas};
 use cv_outside::{Shelf, Sink, Tray};
@@ -46,7 +46,7 @@ fn paint_shown<T: Tray, O: Sink>(
 {
     let Shown { opened, view } = shown;
     match store_of(alloc, opened) {
-        Ok(store) => write_picture(alloc, &store, &view, name, tray, out),
+        Ok(store) => write_last_picture(alloc, store, &view, name, tray, out),
         Err(_) => End::NoMemory,
     }
 }

@@ -13,9 +13,30 @@ use cv_open::End;
 use cv_outside::{Sink, Tray};
 use cv_store::Store;
 use std::alloc::Global;
+use std::mem;
+
+/// Paints a store's project at a view, writes the picture under the name, and prints its size, as the last
+/// that the process does: the store's memory goes with the process, and isn't given back feature by feature.
+pub(crate) fn write_last_picture<T: Tray, O: Sink>(
+    alloc: Global,
+    store: Store,
+    view: &View,
+    name: &str,
+    tray: &mut T,
+    out: &mut O,
+) -> End
+    ensures untouched { Untouched result ⊥ ⊥ (out.new ≡ out.old) }
+    ensures written { IsWritten result (picture_made name.now (project_of store) view.now)
+        (tray_seen T.Tray tray.old) (tray_seen T.Tray tray.new)
+        (sink_seen O.Sink out.old) (sink_seen O.Sink out.new) }
+{
+    let end = write_picture(alloc, &store, view, name, tray, out);
+    mem::forget(store);
+    end
+}
 
 /// Paints a store's project at a view, writes the picture under the name, and prints its size.
-pub(crate) fn write_picture<T: Tray, O: Sink>(
+fn write_picture<T: Tray, O: Sink>(
     alloc: Global,
     store: &Store,
     view: &View,

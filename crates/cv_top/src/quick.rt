@@ -10,7 +10,7 @@ ghost use Rattle.cv_top.specs.Outcomes.{picture_made};
 ghost use Rattle.cv_top.specs.Runs.{Untouched, IsWritten, Obeys};
 
 use crate::orders::{Order, QuickOrder};
-use crate::pictures::write_picture;
+use crate::pictures::write_last_picture;
 use cv_model::{
     Blend, CanvasList, Delimiter, LayerData, LayerFile, LayerList, NoMemory, ProjectFile, Rgb,
     Rgba, Scales, Sequence, Source, Style, Symbol, Text,
@@ -116,7 +116,7 @@ fn paint_layer<T: Tray, O: Sink>(
         (sink_seen O.Sink out.old) (sink_seen O.Sink out.new) }
 {
     match quick_store(alloc, order.fill, contents) {
-        Ok(store) => write_picture(alloc, &store, &order.view, order.out, tray, out),
+        Ok(store) => write_last_picture(alloc, store, &order.view, order.out, tray, out),
         Err(_) => End::NoMemory,
     }
 }

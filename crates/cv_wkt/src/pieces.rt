@@ -1,6 +1,6 @@
 //! What has been read of a geometry.
 
-ghost use Rattle.std.specs.Prelude.{◌≡◌, OnOk};
+ghost use Rattle.std.specs.Prelude.{◌≡◌, ◌++◌, ◌∷◌, [], OnOk};
 ghost use Rattle.cv_wkt.specs.Pieces.{nothing, added, closed, emptied, lists};
 
 use crate::place::Frame;
@@ -8,6 +8,22 @@ use cv_model::{Geometry, Line, NoMemory, Point, Polygon, Ring, Sequence};
 use std::alloc::Global;
 use std::marker::Model;
 use std::mem;
+
+/// How many points a path begins with room for: most rings and lines have more than four.
+const PATH: u64 = 16;
+
+/// How many items a list of another kind begins with room for: most geometries have one part, with one ring.
+const LIST: u64 = 1;
+
+/// Puts an item behind the others of a list. An empty list begins with room for so many.
+fn put<T: Drop>(alloc: Global, list: &mut Sequence<T>, room: u64, item: T) -> Result<(), NoMemory>
+    ensures { OnOk result (list.new ≡ list.old ++ item ∷ []) }
+{
+    if list.len() == 0 {
+        *list = Sequence::with_room(alloc, room)?;
+    }
+    list.put(item)
+}
 
 /// The three lists of a geometry, the rings of its open polygon, and the points of its open path.
 #[derive(Drop)]
@@ -48,12 +64,12 @@ impl Pieces {
     }
 
     /// With a point of a list.
-    pub fn add(&mut self, frame: Frame, point: Point) -> Result<(), NoMemory>
+    pub fn add(&mut self, alloc: Global, frame: Frame, point: Point) -> Result<(), NoMemory>
         ensures { OnOk result (self.new ≡ added frame point self.old) }
     {
         match frame {
-            Frame::LinePoints | Frame::RingPoints => self.path.put(point)?,
-            _ => self.points.put(point)?,
+            Frame::LinePoints | Frame::RingPoints => put(alloc, &mut self.path, PATH, point)?,
+            _ => put(alloc, &mut self.points, LIST, point)?,
         }
         Ok(())
     }
@@ -65,15 +81,15 @@ impl Pieces {
         match frame {
             Frame::LinePoints => {
                 let path = mem::replace(&mut self.path, Sequence::new(alloc));
-                self.lines.put(path)?;
+                put(alloc, &mut self.lines, LIST, path)?;
             }
             Frame::RingPoints => {
                 let path = mem::replace(&mut self.path, Sequence::new(alloc));
-                self.rings.put(path)?;
+                put(alloc, &mut self.rings, LIST, path)?;
             }
             Frame::Rings => {
                 let rings = mem::replace(&mut self.rings, Sequence::new(alloc));
-                self.polygons.put(rings)?;
+                put(alloc, &mut self.polygons, LIST, rings)?;
             }
             _ => {}
         }
@@ -85,7 +101,7 @@ impl Pieces {
         ensures { OnOk result (self.new ≡ emptied frame self.old) }
     {
         if let Frame::RingPoints = frame {
-            self.rings.put(Sequence::new(alloc))?;
+            put(alloc, &mut self.rings, LIST, Sequence::new(alloc))?;
         }
         Ok(())
     }

@@ -97,7 +97,7 @@ impl Reader {
         self.next = Now::BehindX;
     }
 
-    fn set_y(&mut self, y: i64) -> Result<(), NoMemory>
+    fn set_y(&mut self, alloc: Global, y: i64) -> Result<(), NoMemory>
         requires range { IsCoordinate y }
         requires few { self.old.vertices < 1000000 }
         ensures { OnOk result (self.new ≡ with_y y self.old) }
@@ -106,7 +106,7 @@ impl Reader {
             Some(frame) => frame,
             None => Frame::Geometries,
         };
-        self.pieces.add(frame, Point { x: self.x, y })?;
+        self.pieces.add(alloc, frame, Point { x: self.x, y })?;
         self.vertices += 1;
         self.next = Now::Behind(2);
         Ok(())
@@ -219,13 +219,13 @@ impl Reader {
 
     /// Where a y is expected.
     #[tactic(auto, using(crate::proofs::StepLemmas::is_room))]
-    fn at_y(&mut self, kind: Kind) -> Result<bool, NoMemory>
+    fn at_y(&mut self, alloc: Global, kind: Kind) -> Result<bool, NoMemory>
         requires range { IsKindInRange kind }
         requires few { limit_of Now.BehindX self.old.frames self.old.vertices kind ≡ None }
         ensures { IfOk result (λ b. Stepped b (stepped Now.BehindX kind self.old) self.new) }
     {
         match kind {
-            Kind::Number(Fixed::Value(y), _) => self.set_y(y)?,
+            Kind::Number(Fixed::Value(y), _) => self.set_y(alloc, y)?,
             _ => return Ok(false),
         }
         Ok(true)
@@ -297,7 +297,7 @@ impl Reader {
             Now::Begin(Sort::Ordinates) => Ok(self.at_ordinates(kind)),
             Now::Begin(Sort::Member) => self.at_member(kind),
             Now::BehindWord(frame) => self.at_word(alloc, frame, kind),
-            Now::BehindX => self.at_y(kind),
+            Now::BehindX => self.at_y(alloc, kind),
             Now::Behind(ordinates) => self.behind_item(alloc, ordinates, kind),
         }
     }
@@ -367,13 +367,13 @@ impl Reader {
     }
 
     /// Takes a point of a line or a ring, and the comma behind it.
-    fn put_pair(&mut self, x: i64, y: i64) -> Result<(), NoMemory>
+    fn put_pair(&mut self, alloc: Global, x: i64, y: i64) -> Result<(), NoMemory>
         requires x_in { IsCoordinate x }
         requires y_in { IsCoordinate y }
         requires few { self.old.vertices < 1000000 }
         ensures { OnOk result (self.new ≡ with_pair x y self.old) }
     {
-        self.pieces.add(Frame::LinePoints, Point { x, y })?;
+        self.pieces.add(alloc, Frame::LinePoints, Point { x, y })?;
         self.x = x;
         self.vertices += 1;
         Ok(())
@@ -381,7 +381,12 @@ impl Reader {
 
     /// Takes the points of a line or a ring from an offset on, as far as they are written as most are.
     /// Answers where it stopped.
-    pub fn take_points(&mut self, text: &[u8], start: usize) -> Result<usize, NoMemory>
+    pub fn take_points(
+        &mut self,
+        alloc: Global,
+        text: &[u8],
+        start: usize,
+    ) -> Result<usize, NoMemory>
         requires { start ≤ length text.now }
         ensures { IfOk result (λ at. PointsAlong text.now start self.old at self.new) }
     {
@@ -392,7 +397,7 @@ impl Reader {
         while self.vertices < 1_000_000 {
             match first_pair(text.split_at(at).1) {
                 Some(pair) => {
-                    self.put_pair(pair.x, pair.y)?;
+                    self.put_pair(alloc, pair.x, pair.y)?;
                     at += pair.len;
                 }
                 None => return Ok(at),

@@ -72,7 +72,7 @@ pub fn scan(alloc: Global, text: &[u8]) -> Result<Geometry, WktError>
     let mut reader = Reader::new(alloc);
     let mut at = 0;
     while at < text.len() {
-        let next = match reader.take_points(text, at) {
+        let next = match reader.take_points(alloc, text, at) {
             Ok(next) => next,
             Err(_) => return Err(WktError::NoMemory),
         };

@@ -1,8 +1,8 @@
 //! Grids: the cells at the centres of pixels, as wide as a pixel, wider and narrower.
 
-use crate::layers::grid;
-use crate::random::{agreed, next};
-use cv_layer::LayerInput;
+use crate::layers::{fill, grid, piece, single};
+use crate::random::{agreed, agreement, mask, next};
+use cv_layer::{LayerInput, Piece};
 use cv_model::{NoMemory, Ramp, RampKind, Rgba, Stop, StopList};
 use std::alloc::Global;
 use std::test::Fail;
@@ -13,7 +13,7 @@ fn opaque(r: u8, g: u8, b: u8) -> Rgba {
 }
 
 /// Red for 1, green for 2, blue for 3 and grey for 4.
-fn letters(alloc: Global) -> Result<Ramp, NoMemory> {
+pub fn letters(alloc: Global) -> Result<Ramp, NoMemory> {
     let mut stops = StopList::new(alloc);
     stops.put(Stop {
         value: 1_000_000,
@@ -36,7 +36,7 @@ fn letters(alloc: Global) -> Result<Ramp, NoMemory> {
 
 /// The marks of the grid in a text, and whether both painters agree.
 fn drawn(alloc: Global, text: &str, across: u16, upwards: u16) -> Result<(String, bool), Fail> {
-    let own = grid(alloc, 1, text, letters(alloc)?)?;
+    let own = grid(alloc, 1, text, letters(alloc)?, None)?;
     agreed(alloc, LayerInput::of(own, None, None), across, upwards)
 }
 
@@ -123,5 +123,48 @@ fn random_grids_are_painted_as_by_centres(rt: HostRuntime) -> Result<(), Fail> {
         let (_, same) = drawn(alloc, text.as_str(), 9, 7)?;
         assert!(rt; same);
     }
+    Ok(())
+}
+
+/// What is to be painted of a random grid, through a random mask layer.
+fn masked(alloc: Global, seed: &mut u32) -> Result<Piece, Fail> {
+    let text = random_text(alloc, seed)?;
+    let own = grid(alloc, 1, text.as_str(), letters(alloc)?, Some(3))?;
+    let mask = mask(alloc, seed)?;
+    piece(alloc, LayerInput::of(own, Some(mask), None), 9, 7)
+}
+
+#[test]
+fn random_grids_through_masks_are_painted_as_by_centres(rt: HostRuntime) -> Result<(), Fail> {
+    let alloc = rt.alloc();
+    let mut seed = 26;
+    for _ in 0..20 {
+        let piece = masked(alloc, &mut seed)?;
+        let (same, _) = agreement(alloc, &piece)?;
+        assert_eq!(rt; same, 63);
+    }
+    Ok(())
+}
+
+const CELLS: &str = "ncols 2 nrows 2 xllcorner 0 yllcorner 0 cellsize 2 1 2 3 4";
+
+#[test]
+fn a_mask_shows_a_grid_in_its_polygons(rt: HostRuntime) -> Result<(), Fail> {
+    let alloc = rt.alloc();
+    let own = grid(alloc, 1, CELLS, letters(alloc)?, Some(3))?;
+    let lower = "wkt\nPOLYGON((0 0,4 0,4 3,0 3))\n";
+    let mask = single(alloc, 3, lower, fill(opaque(9, 9, 9)), None)?;
+    let (marks, same) = agreed(alloc, LayerInput::of(own, Some(mask), None), 4, 4)?;
+    assert_eq!(rt; (marks.as_str(), same), ("....rrggbbccbbcc", true));
+    Ok(())
+}
+
+#[test]
+fn a_grid_as_mask_shows_nothing(rt: HostRuntime) -> Result<(), Fail> {
+    let alloc = rt.alloc();
+    let own = grid(alloc, 1, CELLS, letters(alloc)?, Some(3))?;
+    let mask = grid(alloc, 3, CELLS, letters(alloc)?, None)?;
+    let (marks, same) = agreed(alloc, LayerInput::of(own, Some(mask), None), 4, 4)?;
+    assert_eq!(rt; (marks.as_str(), same), ("................", true));
     Ok(())
 }

@@ -3,9 +3,9 @@
 ghost use Rattle.std.specs.Prelude.{◌≡◌, ◌+◌, false, length, IfOk, OnOk};
 ghost use Rattle.cv_model.specs.ProjectFiles.{is_ramp};
 
-use crate::layers::{fill, layer, single};
-use crate::random::{agreed, next};
-use cv_layer::LayerInput;
+use crate::layers::{fill, layer, piece, single};
+use crate::random::{agreed, agreement, mask, next};
+use cv_layer::{LayerInput, Piece};
 use cv_model::{Class, ClassList, Field, Join, NoMemory, Rgba, Sequence, Style, Text};
 use std::alloc::Global;
 use std::test::Fail;
@@ -164,5 +164,29 @@ fn random_joins_are_painted_as_by_centres(rt: HostRuntime) -> Result<(), Fail> {
         let (_, same) = joined(alloc, own.as_str(), there.as_str(), 8)?;
         assert!(rt; same);
     }
+    Ok(())
+}
+
+/// What is to be painted of random squares joined with random features, through a random mask layer.
+fn masked(alloc: Global, seed: &mut u32) -> Result<Piece, Fail> {
+    let (own, there) = random_texts(alloc, seed)?;
+    let (style, join) = (by_kind(alloc, true)?, by_key(alloc)?);
+    let own = layer(alloc, 1, own.as_str(), style, Some(3), Some(join))?;
+    let there = single(alloc, 2, there.as_str(), fill(opaque(9, 9, 9)), None)?;
+    let mask = mask(alloc, seed)?;
+    piece(alloc, LayerInput::of(own, Some(mask), Some(there)), 8, 1)
+}
+
+#[test]
+fn random_joins_through_masks_are_painted_as_by_centres(rt: HostRuntime) -> Result<(), Fail> {
+    let alloc = rt.alloc();
+    let (mut seed, mut shown) = (27, 0usize);
+    for _ in 0..20 {
+        let piece = masked(alloc, &mut seed)?;
+        let (same, seen) = agreement(alloc, &piece)?;
+        assert_eq!(rt; same, 8);
+        shown = shown.saturating_add(seen);
+    }
+    assert!(rt; 0 < shown && shown < 160);
     Ok(())
 }

@@ -89,9 +89,15 @@ pub fn single(
 }
 
 /// The layer of the grid in a text, coloured by a ramp.
-pub fn grid(alloc: Global, id: u32, text: &str, ramp: Ramp) -> Result<SharedLayer, Fail>
+pub fn grid(
+    alloc: Global,
+    id: u32,
+    text: &str,
+    ramp: Ramp,
+    mask: Option<u32>,
+) -> Result<SharedLayer, Fail>
     ensures id { IfOk result (λ made. made.core.id ≡ id) }
-    ensures mask { IfOk result (λ made. made.core.mask ≡ None) }
+    ensures mask { IfOk result (λ made. made.core.mask ≡ mask) }
     ensures join { IfOk result (λ made. made.core.join ≡ None) }
 {
     let bytes = text.as_bytes();
@@ -99,7 +105,7 @@ pub fn grid(alloc: Global, id: u32, text: &str, ramp: Ramp) -> Result<SharedLaye
         return Err(Fail::from(AllocError));
     }
     let contents = LayerData::Grid(cv_grid::read(alloc, bytes, 1000)?);
-    let layer = Layer::of(alloc, id, Style::Ramp(ramp), None, None, contents, 1)?;
+    let layer = Layer::of(alloc, id, Style::Ramp(ramp), mask, None, contents, 1)?;
     match SharedLayer::of(alloc, layer) {
         Ok(shared) => Ok(shared),
         Err(refused) => Err(Fail::from(refused.1)),

@@ -14,11 +14,17 @@ mod grids;
 #[cfg(test)]
 mod joins;
 #[cfg(test)]
+mod laid;
+#[cfg(test)]
 mod layers;
 #[cfg(test)]
 mod random;
 #[cfg(test)]
 mod real;
+#[cfg(test)]
+mod sides;
+#[cfg(test)]
+mod stops;
 #[cfg(test)]
 mod strips;
 #[cfg(test)]

@@ -1,8 +1,10 @@
 //! Random layers, from seeds: painted by runs as by testing each feature at each pixel centre.
 
+ghost use Rattle.std.specs.Prelude.{◌≡◌, IfOk};
+
 use crate::layers::{piece, single};
 use crate::marks;
-use cv_layer::{LayerInput, Piece};
+use cv_layer::{LayerInput, Piece, SharedLayer};
 use cv_model::{Marker, NoMemory, Pen, Rgba, Shape, Symbol};
 use cv_outside::Never;
 use cv_paint::{paint, plain};
@@ -37,8 +39,8 @@ fn push_points(text: &mut String, seed: &mut u32, count: u8) -> Result<(), NoMem
     Ok(())
 }
 
-/// Puts a record behind a text: a polygon with two rings, a line and a point.
-fn push_record(text: &mut String, seed: &mut u32) -> Result<(), NoMemory> {
+/// Puts a geometry behind a text: a polygon with two rings, a line and a point.
+pub fn push_geometry(text: &mut String, seed: &mut u32) -> Result<(), NoMemory> {
     text.push_str("GEOMETRYCOLLECTION(POLYGON((")?;
     push_points(text, seed, 5)?;
     text.push_str("),(")?;
@@ -47,14 +49,15 @@ fn push_record(text: &mut String, seed: &mut u32) -> Result<(), NoMemory> {
     push_points(text, seed, 3)?;
     text.push_str("),POINT(")?;
     push_points(text, seed, 1)?;
-    text.push_str("))\n")
+    text.push_str("))")
 }
 
 /// A text of three features.
 fn features(alloc: Global, seed: &mut u32) -> Result<String, NoMemory> {
     let mut text = String::from_str(alloc, "wkt\n")?;
     for _ in 0..3 {
-        push_record(&mut text, seed)?;
+        push_geometry(&mut text, seed)?;
+        text.push('\n')?;
     }
     Ok(text)
 }
@@ -65,7 +68,7 @@ fn half(r: u8, g: u8, b: u8) -> Rgba {
 }
 
 /// A red fill below a green pen below a blue marker, each of half the alpha.
-fn all_parts(shape: Shape) -> Symbol {
+pub fn all_parts(shape: Shape) -> Symbol {
     Symbol {
         fill: Some(half(255, 0, 0)),
         pen: Some(Pen {
@@ -80,16 +83,24 @@ fn all_parts(shape: Shape) -> Symbol {
     }
 }
 
+/// A random mask layer.
+pub fn mask(alloc: Global, seed: &mut u32) -> Result<SharedLayer, Fail>
+    ensures id { IfOk result (λ made. made.core.id ≡ 3) }
+{
+    let text = features(alloc, seed)?;
+    single(alloc, 3, text.as_str(), all_parts(Shape::Square), None)
+}
+
 /// What is to be painted of a random layer, through a random mask layer.
-fn masked(alloc: Global, seed: &mut u32, shape: Shape) -> Result<Piece, Fail> {
+pub fn masked(alloc: Global, seed: &mut u32, shape: Shape) -> Result<Piece, Fail> {
     let symbol = all_parts(shape);
     let own = single(alloc, 1, features(alloc, seed)?.as_str(), symbol, Some(3))?;
-    let mask = single(alloc, 3, features(alloc, seed)?.as_str(), symbol, None)?;
+    let mask = mask(alloc, seed)?;
     piece(alloc, LayerInput::of(own, Some(mask), None), 9, 7)
 }
 
 /// What is to be painted of a random layer without mask.
-fn alone(alloc: Global, seed: &mut u32, shape: Shape) -> Result<Piece, Fail> {
+pub fn alone(alloc: Global, seed: &mut u32, shape: Shape) -> Result<Piece, Fail> {
     let own = single(
         alloc,
         1,

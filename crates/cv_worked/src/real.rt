@@ -135,7 +135,7 @@ fn seen(
 #[test]
 fn heights_are_those_of_the_cells(rt: HostRuntime) -> Result<(), Fail> {
     let alloc = rt.alloc();
-    let own = grid(alloc, 10, HEIGHTS, by_height(alloc)?)?;
+    let own = grid(alloc, 10, HEIGHTS, by_height(alloc)?, None)?;
     let places = [(10, 10), (500, 10), (500, 500), (200, 399)];
     let (colours, same) = seen(alloc, LayerInput::of(own, None, None), places)?;
     assert_eq!(rt; colours[0], Some(opaque(32, 64, 96)));

@@ -8,7 +8,7 @@ use crate::marks;
 use cv_layer::LayerInput;
 use cv_model::{Class, ClassList, Field, Join, NoMemory, Rgba, Sequence, Style, Symbol, Text};
 use cv_outside::{Never, Stop};
-use cv_paint::{PaintError, paint};
+use cv_paint::{PaintError, paint, plain};
 use std::alloc::Global;
 use std::test::Fail;
 
@@ -203,6 +203,31 @@ fn a_stop_at_the_third_poll_is_the_last_poll(rt: HostRuntime) -> Result<(), Fail
     let alloc = rt.alloc();
     let own = single(alloc, 1, ALL, fill(GREY), None)?;
     let piece = piece(alloc, LayerInput::of(own, None, None), 4, 4)?;
+    let mut third = Third { polls: 0, yeses: 0 };
+    let answer = paint(alloc, &piece, &mut third);
+    let is_stopped = matches!(answer, Err(PaintError::Stopped));
+    assert_eq!(rt; (is_stopped, third.polls), (true, 3));
+    Ok(())
+}
+
+#[test]
+fn by_centres_too_the_yes_is_the_last_poll(rt: HostRuntime) -> Result<(), Fail> {
+    let alloc = rt.alloc();
+    let own = single(alloc, 1, ALL, fill(GREY), None)?;
+    let piece = piece(alloc, LayerInput::of(own, None, None), 4, 4)?;
+    let mut third = Third { polls: 0, yeses: 0 };
+    let answer = plain(alloc, &piece, &mut third);
+    let is_stopped = matches!(answer, Err(PaintError::Stopped));
+    assert_eq!(rt; (is_stopped, third.polls), (true, 3));
+    Ok(())
+}
+
+#[test]
+fn of_a_masked_layer_too_the_yes_is_the_last_poll(rt: HostRuntime) -> Result<(), Fail> {
+    let alloc = rt.alloc();
+    let own = single(alloc, 1, ALL, fill(GREY), Some(3))?;
+    let mask = single(alloc, 3, ALL, fill(GREY), None)?;
+    let piece = piece(alloc, LayerInput::of(own, Some(mask), None), 4, 4)?;
     let mut third = Third { polls: 0, yeses: 0 };
     let answer = paint(alloc, &piece, &mut third);
     let is_stopped = matches!(answer, Err(PaintError::Stopped));

@@ -55,14 +55,53 @@ fn doubled(point: Point) -> Point {
     (2 * point.0, 2 * point.1)
 }
 
+/// Marks by rows, two for each, each one more than its column, 0 for none; those that find no place, in a
+/// list.
+struct Marks {
+    rows: Vec<[u32; 2]>,
+    list: Vec<(u32, u32)>,
+    /// The first row with marks, and the one behind the last.
+    span: (usize, usize),
+}
+
+impl Marks {
+    fn put(&mut self, row: usize, column: u32) {
+        let pair = &mut self.rows[row];
+        if pair[0] == 0 {
+            pair[0] = column + 1;
+        } else if pair[1] == 0 {
+            pair[1] = column + 1;
+        } else {
+            self.list.push((row as u32, column));
+        }
+    }
+
+    /// The runs between the marks, by rows alone or sorted, in place of what a list held. None is left.
+    fn take_runs(&mut self, runs: &mut Vec<(u32, u32, u32)>) {
+        runs.clear();
+        for row in self.span.0..self.span.1 {
+            let pair = std::mem::take(&mut self.rows[row]);
+            if !self.list.is_empty() {
+                self.list.extend(pair.iter().filter(|mark| **mark > 0).map(|mark| (row as u32, mark - 1)));
+            } else if pair[0] != pair[1] {
+                runs.push((row as u32, pair[0].min(pair[1]) - 1, pair[0].max(pair[1]) - 1));
+            }
+        }
+        self.list.sort_unstable();
+        runs.extend(self.list.chunks_exact(2).map(|pair| (pair[0].0, pair[0].1, pair[1].1)));
+        self.list.clear();
+    }
+}
+
 /// Marks the first column that isn't left of an edge, in each row that it crosses.
-fn mark_edge(a: Point, b: Point, view: &View, marks: &mut Vec<(u32, u32)>) {
+fn mark_edge(a: Point, b: Point, view: &View, marks: &mut Marks) {
     let (low, high) = if a.1 < b.1 { (a, b) } else { (b, a) };
     let from = first_at(view.first.1 - high.1 + 1, view.side, view.height);
     let end = first_at(view.first.1 - low.1 + 1, view.side, view.height);
     if from >= end {
         return;
     }
+    marks.span = (marks.span.0.min(from), marks.span.1.max(end));
     let (dx, dy) = (i128::from(high.0 - low.0), i128::from(high.1 - low.1));
     let centre = view.first.1 - from as i64 * view.side;
     let over = i128::from(low.0 - view.first.0) * dy + dx * i128::from(centre - low.1);
@@ -71,7 +110,7 @@ fn mark_edge(a: Point, b: Point, view: &View, marks: &mut Vec<(u32, u32)>) {
     let step = -dx * i128::from(view.side);
     let (columns, part) = (step.div_euclid(whole), step.rem_euclid(whole));
     for row in from..end {
-        marks.push((row as u32, column.clamp(0, view.width as i128) as u32));
+        marks.put(row, column.clamp(0, view.width as i128) as u32);
         column += columns;
         rest += part;
         if rest >= whole {
@@ -140,11 +179,35 @@ fn lay(ink: &Ink, run: &mut [Rgba]) {
     }
 }
 
+/// A bit for each pixel that an opaque colour covers.
+struct Cover(Vec<u64>);
+
+impl Cover {
+    fn cover(&mut self, from: usize, end: usize) {
+        let (first, last) = (from / 64, (end - 1) / 64);
+        let (behind, before) = (!0 << (from % 64), !0 >> (63 - (end - 1) % 64));
+        if first == last {
+            self.0[first] |= behind & before;
+        } else {
+            self.0[first] |= behind;
+            self.0[first + 1..last].fill(!0);
+            self.0[last] |= before;
+        }
+    }
+
+    fn is_covered(&self, place: usize) -> bool {
+        self.0[place / 64] >> (place % 64) & 1 == 1
+    }
+}
+
+/// Lays each feature's runs. An opaque fill only covers; another is laid on what is there.
 fn paint(features: &[Vec<Vec<Point>>], fill: Rgba, view: &View) -> Vec<Rgba> {
     let mut image = vec![Rgba::default(); view.width * view.height];
-    let (mut marks, ink) = (Vec::new(), Ink::of(fill));
+    let (mut cover, ink) = (Cover(vec![0; image.len() / 64 + 1]), Ink::of(fill));
+    let mut marks = Marks { rows: vec![[0; 2]; view.height], list: Vec::new(), span: (0, 0) };
+    let mut runs = Vec::new();
     for rings in features {
-        marks.clear();
+        marks.span = (view.height, 0);
         for ring in rings {
             let mut before = doubled(ring[ring.len() - 1]);
             for point in ring.iter().map(|point| doubled(*point)) {
@@ -152,10 +215,20 @@ fn paint(features: &[Vec<Vec<Point>>], fill: Rgba, view: &View) -> Vec<Rgba> {
                 before = point;
             }
         }
-        marks.sort_unstable();
-        for pair in marks.chunks_exact(2) {
-            let start = pair[0].0 as usize * view.width;
-            lay(&ink, &mut image[start + pair[0].1 as usize..start + pair[1].1 as usize]);
+        marks.take_runs(&mut runs);
+        for &(row, from, end) in runs.iter().filter(|run| run.1 < run.2) {
+            let start = row as usize * view.width;
+            let (from, end) = (start + from as usize, start + end as usize);
+            if fill.a == 255 {
+                cover.cover(from, end);
+            } else {
+                lay(&ink, &mut image[from..end]);
+            }
+        }
+    }
+    for (place, pixel) in image.iter_mut().enumerate() {
+        if cover.is_covered(place) {
+            *pixel = fill;
         }
     }
     image

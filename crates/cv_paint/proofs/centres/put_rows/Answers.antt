@@ -13,7 +13,7 @@ loop-j-init g c = (omega arith, sym (append-nil c.args.pixels.now))
 pub loop-j-preserved : goal.loop-j-preserved
 loop-j-preserved g c =
     let f = pixel c.args.input.now.parts c.args.view.now in (
-      omega (arith, c.loop-j.invariant.0, c.poll.ensures.counts),
+      c.poll.ensures.quiet c.if-poll.false ∙ c.loop-j.invariant.0,
       c.in_ok-put_row.ensures
           ∙ ap (λ (ps : List Rgba). ps ++ row_of c.args.view.now.w f c.loop-j.j) c.loop-j.invariant.1
           ∙ append_assoc c.args.pixels.now (pixels_of c.args.view.now.w c.loop-j.j f) (row_of c.args.view.now.w f c.loop-j.j)

@@ -7,7 +7,7 @@ use Rattle.cv_paint.proofs.features.lay_table.Goals as goal
 pub loop-at-preserved : goal.loop-at-preserved
 loop-at-preserved g c = (
   c.in_ok-lay_rows.ensures.frame ∙ c.loop-at.invariant.0,
-  omega (arith, c.loop-at.invariant.1, c.poll.ensures.counts),
+  c.poll.ensures.quiet c.if-poll.false ∙ c.loop-at.invariant.1,
   run_within c.rows-rows.result.now c.run_from-run.result.now c.loop-at.at c.loop-at.invariant.2 c.run_from-run.ensures.same,
   lays_run c.args.view.now _ c.rows-rows.result.now c.run_from-run.result.now c.loop-at.at _ _ _ c.run_from-run.ensures.same
       c.loop-at.invariant.3 c.in_ok-lay_rows.ensures.laid,

@@ -9,7 +9,7 @@ use Rattle.cv_paint.proofs.features.lay_table.Given as goal
 abbrev pub invariant-loop-at : goal.invariant-loop-at
 invariant-loop-at g l =
     (g.C.Canvas.frame l.canvas ≡ g.C.Canvas.frame l.fn.canvas)
-    × (g.S.Stop.yeses l.fn.stop ≤ g.S.Stop.yeses l.stop)
+    × (g.S.Stop.yeses l.stop ≡ g.S.Stop.yeses l.fn.stop)
     × (l.at ≤ length l.rows)
     × Lays l.view (λ p. flat_map (feature_strokes l.symbols l.view p) (take l.at l.rows))
     (g.C.Canvas.at l.fn.canvas) (g.C.Canvas.at l.canvas)

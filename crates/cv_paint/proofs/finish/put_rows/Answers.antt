@@ -21,7 +21,7 @@ pub loop-j-preserved : goal.loop-j-preserved
 loop-j-preserved g c =
     let f = masked c.args.mask.now (g.C.Canvas.at c.args.canvas.now) in (
       c.loop-j.invariant.0,
-      omega (arith, c.loop-j.invariant.1, c.poll.ensures.counts),
+      c.poll.ensures.quiet c.if-poll.false ∙ c.loop-j.invariant.1,
       c.in_ok-put_row.ensures.ok
           ∙ ap (λ (ps : List Rgba). ps ++ row_of c.args.view.now.w f c.loop-j.j) c.loop-j.invariant.2
           ∙ append_assoc c.args.pixels.now (pixels_of c.args.view.now.w c.loop-j.j f) (row_of c.args.view.now.w f c.loop-j.j)

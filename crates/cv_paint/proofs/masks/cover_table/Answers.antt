@@ -9,7 +9,7 @@ pub loop-at-preserved : goal.loop-at-preserved
 loop-at-preserved g c = (
   c.in_ok-cover_rows.ensures.width ∙ c.loop-at.invariant.0,
   c.in_ok-cover_rows.ensures.height ∙ c.loop-at.invariant.1,
-  omega (arith, c.loop-at.invariant.2, c.poll.ensures.counts),
+  c.poll.ensures.quiet c.if-poll.false ∙ c.loop-at.invariant.2,
   run_within c.rows-rows.result.now c.run_from-run.result.now c.loop-at.at c.loop-at.invariant.3 c.run_from-run.ensures.same,
   covers_run c.args.view.now _ c.rows-rows.result.now c.run_from-run.result.now c.loop-at.at _ _ _ c.run_from-run.ensures.same
       c.loop-at.invariant.4 c.in_ok-cover_rows.ensures.covered,

@@ -10,7 +10,7 @@ use Rattle.cv_paint.proofs.masks.cover_table.Given as goal
 abbrev pub invariant-loop-at : goal.invariant-loop-at
 invariant-loop-at g l =
     (l.cover.width ≡ l.fn.cover.width) × (l.cover.height ≡ l.fn.cover.height)
-    × (g.S.Stop.yeses l.fn.stop ≤ g.S.Stop.yeses l.stop)
+    × (g.S.Stop.yeses l.stop ≡ g.S.Stop.yeses l.fn.stop)
     × (l.at ≤ length l.rows)
     × Covers l.view (λ p. list_any (is_feature_at p) (take l.at l.rows)) (is_covered_in l.fn.cover) (is_covered_in l.cover)
     × (l.steps + features_cost l.view (drop l.at l.rows) ≤ l.fn.steps + features_cost l.view l.rows)

@@ -7,8 +7,9 @@ use Rattle.cv_paint.proofs.painted.paint_on.Goals as goal
 
 pub returns-clause-ok : goal.returns-clause-ok
 returns-clause-ok g c =
+    let scene = c.args.scene.now in
     c.in_ok-put_rows.ensures.ok
     ∙ ap (λ (ps : List Rgba). c.args.pixels.now ++ ps)
-    (laid_pixels c.args.view.now c.args.mask.now _ _
-    (λ p. flat_map (feature_strokes c.args.symbols.now c.args.view.now p) c.args.table.now.features)
+    (laid_pixels scene.view.now scene.mask.now _ _
+    (λ p. flat_map (feature_strokes scene.symbols.now scene.view.now p) scene.table.now.features)
     c.requires.clear c.in_ok-lay_table.ensures.laid)

@@ -1,4 +1,4 @@
-use Rattle.std.proofs.Common.{◌≡◌, subst, List, ◌++◌, ap, sym, refl, ◌∙◌}
+use Rattle.std.proofs.Common.{List, ◌++◌, ap, sym, refl, ◌∙◌}
 use Rattle.std.specs.List.{flat_map}
 use Rattle.cv_model.specs.declared.colour.Rgba.{Rgba}
 use Rattle.cv_model.specs.declared.style.Style.{Style}
@@ -8,7 +8,6 @@ use Rattle.cv_model.specs.Colours.{laid}
 use Rattle.cv_model.specs.Pictures.{feature_strokes, cell_colour}
 use Rattle.cv_layer.specs.Layers.{contents_seen}
 use Rattle.cv_paint.specs.Cells.{cell_pixel}
-use Rattle.cv_paint.specs.Masks.{IsMask}
 use Rattle.cv_paint.proofs.PaintedLemmas.{painted_pixels}
 use Rattle.cv_paint.proofs.painted.paint_view.Goals as goal
 
@@ -16,30 +15,21 @@ pub returns-in-Text-clause-ok : goal.returns-in-Text-clause-ok
 returns-in-Text-clause-ok g c =
     let parts = c.args.symbols.now in
     let view = c.args.view.now in
-    let own : c.layer-layer.result.now.core ≡ parts.own =
-    c.layer-layer.ensures.layer ∙ ap (λ (p : Parts). p.own) c.input-input.ensures in
-    let mask : IsMask view parts.mask c.in_ok-mask.mask =
-    subst (λ (p : Parts). IsMask view p.mask c.in_ok-mask.mask) c.input-input.ensures c.in_ok-mask.ensures.ok in
-    c.in_ok-paint_table-in-Text.ensures.ok
+    c.in_ok-paint_scene-in-Text.ensures.ok
     ∙ ap (λ (ps : List Rgba). c.args.pixels.now ++ ps)
-    (painted_pixels view parts (Features c.in-Text.table.columns c.in-Text.table.features) c.in_ok-mask.mask
+    (painted_pixels view parts _ _ (Features c.in-Text.table.columns c.in-Text.table.features) c.in_ok-mask.mask
     (λ i j. laid (flat_map (feature_strokes parts view (centre_of view i j)) c.in-Text.table.features))
-    (ap contents_seen (sym c.in-Text.is) ∙ c.contents.ensures.contents ∙ ap (λ (k : Core). k.contents) own)
-    mask (λ i j column row. refl))
+    c.layer-layer.ensures.layer c.input-input.ensures (ap contents_seen (sym c.in-Text.is) ∙ c.contents.ensures.contents)
+    c.in_ok-mask.ensures.ok (λ i j column row. refl))
 
 pub returns-clause-ok : goal.returns-clause-ok
 returns-clause-ok g c =
-    let parts = c.args.symbols.now in
     let view = c.args.view.now in
-    let own : c.layer-layer.result.now.core ≡ parts.own =
-    c.layer-layer.ensures.layer ∙ ap (λ (p : Parts). p.own) c.input-input.ensures in
-    let mask : IsMask view parts.mask c.in_ok-mask.mask =
-    subst (λ (p : Parts). IsMask view p.mask c.in_ok-mask.mask) c.input-input.ensures c.in_ok-mask.ensures.ok in
     c.in_ok-put_cells-in-Grid.ensures.ok
     ∙ ap (λ (ps : List Rgba). c.args.pixels.now ++ ps)
-    (painted_pixels view parts (Cells c.in-Grid.cells) c.in_ok-mask.mask
-    (cell_pixel c.style.result.now c.in-Grid.cells view)
-    (ap contents_seen (sym c.in-Grid.is) ∙ c.contents.ensures.contents ∙ ap (λ (k : Core). k.contents) own)
-    mask
+    (painted_pixels view c.args.symbols.now _ _ (Cells c.in-Grid.cells) c.in_ok-mask.mask
+    (cell_pixel c.style.result.now c.in-Grid.cells view) c.layer-layer.ensures.layer c.input-input.ensures
+    (ap contents_seen (sym c.in-Grid.is) ∙ c.contents.ensures.contents) c.in_ok-mask.ensures.ok
     (λ i j column row. ap (λ (s : Style). cell_colour s c.in-Grid.cells (centre_of view i j))
-    (c.style.ensures ∙ ap (λ (k : Core). k.style) own)))
+    (c.style.ensures ∙ ap (λ (k : Core). k.style)
+    (c.layer-layer.ensures.layer ∙ ap (λ (p : Parts). p.own) c.input-input.ensures))))

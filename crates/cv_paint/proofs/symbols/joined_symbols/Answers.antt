@@ -10,7 +10,7 @@ use Rattle.cv_paint.proofs.symbols.joined_symbols.Goals as goal
 
 pub loop-at-preserved : goal.loop-at-preserved
 loop-at-preserved g c = record {
-  counted = omega (arith, c.loop-at.invariant.counted, c.poll.ensures.counts);
+  counted = c.poll.ensures.quiet c.if-poll.false ∙ c.loop-at.invariant.counted;
   within = run_within c.rows-rows.result.now c.run_from-run.result.now c.loop-at.at c.loop-at.invariant.within
       c.run_from-run.ensures.same;
   kept = λ q.

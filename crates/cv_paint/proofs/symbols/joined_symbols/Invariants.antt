@@ -5,7 +5,7 @@ use Rattle.cv_paint.proofs.symbols.joined_symbols.Given as goal
 
 abbrev pub invariant-loop-at : goal.invariant-loop-at
 invariant-loop-at g l = record {
-  counted : g.S.Stop.yeses l.fn.stop ≤ g.S.Stop.yeses l.stop;
+  counted : g.S.Stop.yeses l.stop ≡ g.S.Stop.yeses l.fn.stop;
   within : l.at ≤ length l.rows;
   kept : (q : List ℕ) → given_by l.given q ≡ joined_symbol l.rule l.key l.column (take l.at l.rows) q;
 }

@@ -1,4 +1,4 @@
-use Rattle.std.proofs.Common.{ap, ◌%◌, ◌==◌}
+use Rattle.std.proofs.Common.{ap, ◌∙◌, ◌%◌, ◌==◌}
 use Rattle.cv_scan.specs.Held.{held_right}
 use Rattle.cv_scan.specs.Planes.{bits_right}
 use Rattle.cv_scan.proofs.HeldLemmas.{adds-alike, plane-alone}
@@ -13,5 +13,6 @@ returns c =
     (λ i j. held_right i j area c.args.scratch.now % 2 == 1) area c.args.into.now c.put_bit_rows.new.into
     (λ i j here.
     ap (λ n. n == 1)
-    (plane-alone area c.args.scratch.now s i j here c.in_ok-to_plane.ensures.same c.in_ok-to_plane.ensures.none))
+    (plane-alone area c.args.scratch.now s i j here c.in_ok-to_plane.ensures.same
+    (c.in_ok-to_plane.ensures.pairs ∙ c.requires.none) c.in_ok-to_plane.ensures.none))
     added

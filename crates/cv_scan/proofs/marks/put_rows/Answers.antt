@@ -9,33 +9,19 @@ loop-row-init g c = record {
   marked =
       marks-none c.args.view.now c.args.low c.args.high c.args.area c.args.rows.from c.args.scratch.now
       c.requires.held c.requires.crossed.before;
-  place = tt;
   cost = omega arith;
 }
-
-pub column_at-column-requires-clause-low : goal.column_at-column-requires-clause-low
-column_at-column-requires-clause-low g c =
-    let told = c.loop-row.invariant in
-    let less : c.loop-row.row < c.args.rows.end = omega (arith, c.loop-row-test.true, c.loop-row.auto.row-end) in
-    let ends =
-    rows-low c.args.view.now c.args.low c.args.high c.args.area c.args.rows c.loop-row.row c.requires.crossed
-    c.requires.rises told.north less in
-    ends.0
-
-pub column_at-column-requires-clause-high : goal.column_at-column-requires-clause-high
-column_at-column-requires-clause-high g c =
-    let told = c.loop-row.invariant in
-    let less : c.loop-row.row < c.args.rows.end = omega (arith, c.loop-row-test.true, c.loop-row.auto.row-end) in
-    let ends =
-    rows-low c.args.view.now c.args.low c.args.high c.args.area c.args.rows c.loop-row.row c.requires.crossed
-    c.requires.rises told.north less in
-    ends.1
 
 pub put_mark-requires-clause-mark : goal.put_mark-requires-clause-mark
 put_mark-requires-clause-mark g c =
     let told = c.loop-row.invariant in
     let less : c.loop-row.row < c.args.rows.end = omega (arith, c.loop-row-test.true, c.loop-row.auto.row-end) in
-    let falls = c.column_at-column.ensures in
+    let ends =
+    rows-low c.args.view.now c.args.low c.args.high c.args.area c.args.rows c.loop-row.row c.requires.crossed
+    c.requires.rises told.north less in
+    let falls =
+    c.column_of_crossing-column.ensures c.args.area.columns c.requires.area.columns_in c.requires.between ends.0
+    ends.1 in
     record {
       north = omega (arith, told.north, c.requires.crossed.north);
       south = omega (arith, less, c.requires.crossed.south);
@@ -46,15 +32,50 @@ put_mark-requires-clause-mark g c =
 pub loop-row-preserved : goal.loop-row-preserved
 loop-row-preserved g c =
     let told = c.loop-row.invariant in
+    let less : c.loop-row.row < c.args.rows.end = omega (arith, c.loop-row-test.true, c.loop-row.auto.row-end) in
+    let ends =
+    rows-low c.args.view.now c.args.low c.args.high c.args.area c.args.rows c.loop-row.row c.requires.crossed
+    c.requires.rises told.north less in
+    let falls =
+    c.column_of_crossing-column.ensures c.args.area.columns c.requires.area.columns_in c.requires.between ends.0
+    ends.1 in
     record {
       north = omega (arith, told.north);
       marked =
-          marks-row c.args.view.now c.args.low c.args.high c.args.area c.loop-row.row c.column_at-column.result
-          c.args.scratch.now c.loop-row.scratch c.put_mark.new.scratch c.column_at-column.ensures told.marked
-          c.in_ok-put_mark.ensures;
-      place = c.next_place-place.ensures;
+          marks-row c.args.view.now c.args.low c.args.high c.args.area c.loop-row.row c.column_of_crossing-column.result
+          c.args.scratch.now c.loop-row.scratch c.put_mark.new.scratch falls told.marked c.in_ok-put_mark.ensures;
       cost = omega (arith, told.cost, c.tick.ensures);
     }
+
+pub put_followed-requires-clause-rows : goal.put_followed-requires-clause-rows
+put_followed-requires-clause-rows g c =
+    let told = c.loop-row.invariant in
+    let less : c.loop-row.row < c.args.rows.end = omega (arith, c.loop-row-test.true, c.loop-row.auto.row-end) in
+    record {
+      north = omega (arith, told.north, c.requires.crossed.north);
+      order = omega (arith, less);
+      south = c.requires.crossed.south;
+      ends = λ j from below.
+          rows-low c.args.view.now c.args.low c.args.high c.args.area c.args.rows j c.requires.crossed c.requires.rises
+          (omega (arith, told.north, from)) below;
+    }
+
+pub returns-in-Some-clause-marked : goal.returns-in-Some-clause-marked
+returns-in-Some-clause-marked g c =
+    let told = c.loop-row.invariant in
+    let less : c.loop-row.row < c.args.rows.end = omega (arith, c.loop-row-test.true, c.loop-row.auto.row-end) in
+    let ends =
+    rows-low c.args.view.now c.args.low c.args.high c.args.area c.args.rows c.loop-row.row c.requires.crossed
+    c.requires.rises told.north less in
+    let falls =
+    c.column_of_crossing-column.ensures c.args.area.columns c.requires.area.columns_in c.requires.between ends.0
+    ends.1 in
+    let so_far =
+    marks-row c.args.view.now c.args.low c.args.high c.args.area c.loop-row.row c.column_of_crossing-column.result
+    c.args.scratch.now c.loop-row.scratch c.put_mark.new.scratch falls told.marked c.in_ok-put_mark.ensures in
+    marks-all c.args.view.now c.args.low c.args.high c.args.area c.args.rows.end c.args.scratch.now
+    c.put_followed.new.scratch c.requires.crossed.behind
+    (c.in_ok-put_followed.ensures.marked c.args.scratch.now so_far)
 
 pub returns-clause-marked : goal.returns-clause-marked
 returns-clause-marked g c =

@@ -6,8 +6,8 @@ use Rattle.cv_model.specs.Views.{PixelGrid}
 use Rattle.cv_scan.proofs.TermLemmas.{place-is, at-least, less-is}
 use Rattle.cv_scan.proofs.terms.place_of.Goals as goal
 
-pub returns-then-over-slope : goal.returns-then-over-slope
-returns-then-over-slope c =
+pub returns-then-over-slope-clause-place : goal.returns-then-over-slope-clause-place
+returns-then-over-slope-clause-place c =
     let v = c.args.view.now in
     let unit : pos 1 ≤ℤ v.u = rw (ap (λ (g : PixelGrid). g.u) c.view.view_is) at c.view.invariant.unit in
     let fits : FitsSigned w128 c.way_east-over.result = search rules in

@@ -30,4 +30,4 @@ returns-then-part-whole c =
     let high = less-is c.part_of-part.result c.product-whole.result (rw (part_is, whole_is) at c.if-part-whole.true) in
     rw (columns_is, part_is, whole_is)
     (slope-is c.args.view.now (doubled c.args.low) (doubled c.args.high) c.in_ok-columns.columns c.in_ok-shift.shift
-    c.part_of-part.result c.product-whole.result whole shift part low high)
+    c.part_of-part.result c.product-whole.result whole shift part low high c.in_ok-columns.ensures)

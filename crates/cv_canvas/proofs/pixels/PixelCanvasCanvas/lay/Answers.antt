@@ -13,6 +13,6 @@ returns-clause-laid c =
     let inside = subst (λ (s : Raster Rgba). IsWithin s.width s.height c.args.run) (sym c.self.view_is)
     c.requires.run in
     laid_by (over c.args.colour) transparent c.self.inside.width c.self.inside.height c.self.inside.pixels
-    c.deref_mut.result.now c.lay_on.new.pixels c.args.run c.deref_mut.ensures.value c.deref_mut.ensures.len
-    c.self.invariant inside c.lay_on.ensures
+    c.deref_mut.result.now c.lay_with.new.pixels c.args.run c.deref_mut.ensures.value c.deref_mut.ensures.len
+    c.self.invariant inside c.lay_with.ensures
     ∙ ap (λ (s : Raster Rgba). with_run c.args.colour (pixel_in s) c.args.run) c.self.view_is

@@ -6,19 +6,19 @@ use Rattle.cv_paint.specs.Symbols.{AreSymbols, column_of, symbol_by}
 use Rattle.cv_paint.proofs.SymbolLemmas.{unjoined_symbols, absent_symbols, joined_symbols_are}
 use Rattle.cv_paint.proofs.symbols.Symbols.by_join.Goals as goal
 
-pub invariant_of-result : goal.invariant_of-result
-invariant_of-result g c =
+pub by_rule-requires : goal.by_rule-requires
+by_rule-requires g c =
     unjoined_symbols c.args.input.now.parts c.args.field.now c.args.rule c.requires.rule c.requires.style
     c.requires.joined (sym (c.in_default.ensures ∙ ap (λ (k : Core). k.join) c.layer.ensures.layer))
 
-pub invariant_of-result-in_default-join : goal.invariant_of-result-in_default-join
-invariant_of-result-in_default-join g c =
+pub by_rule-requires-in_default-join : goal.by_rule-requires-in_default-join
+by_rule-requires-in_default-join g c =
     absent_symbols c.args.input.now.parts c.args.field.now c.in-Some.join.now c.args.rule c.requires.rule
     c.requires.style c.requires.joined (sym (c.in-Some.ensures ∙ ap (λ (k : Core). k.join) c.layer.ensures.layer))
     (sym c.in_default-join.ensures.join)
 
-pub invariant_of-result-2 : goal.invariant_of-result-2
-invariant_of-result-2 g c =
+pub by_rule-requires-2 : goal.by_rule-requires-2
+by_rule-requires-2 g c =
     let parts = c.args.input.now.parts in
     let field = c.args.field.now in
     let join = c.in-Some.join.now in

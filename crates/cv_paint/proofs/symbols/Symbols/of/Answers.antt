@@ -5,15 +5,15 @@ use Rattle.cv_paint.specs.Symbols.{AreSymbols, IsRuleOf, column_of, field_of}
 use Rattle.cv_paint.proofs.SymbolLemmas.{no_symbols, own_symbols}
 use Rattle.cv_paint.proofs.symbols.Symbols.of.Goals as goal
 
-pub invariant_of-result : goal.invariant_of-result
-invariant_of-result g c =
+pub by_rule-requires : goal.by_rule-requires
+by_rule-requires g c =
     let style = c.style-style.ensures ∙ ap (λ (k : Core). k.style) c.layer.ensures.layer in
     no_symbols c.args.input.now.parts c.in_ok-rule.rule
     (subst (λ (s : Style). IsRuleOf s c.in_ok-rule.rule) style c.in_ok-rule.ensures)
     (sym (c.in_default.ensures ∙ ap field_of style))
 
-pub invariant_of-result-2 : goal.invariant_of-result-2
-invariant_of-result-2 g c =
+pub by_rule-requires-2 : goal.by_rule-requires-2
+by_rule-requires-2 g c =
     let parts = c.args.input.now.parts in
     let field = c.in-Some.field.now in
     let style = c.style-style.ensures ∙ ap (λ (k : Core). k.style) c.layer.ensures.layer in
