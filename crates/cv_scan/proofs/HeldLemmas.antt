@@ -3,6 +3,7 @@ use Rattle.std.proofs.Common.{◌≡◌, ◌∙◌, sym, ap, refl, ℕ, ◌+◌,
 use Rattle.std.proofs.lemmas.Bool.Decides.{nat_tests}
 use Rattle.std.proofs.lemmas.List.Elements.{All-nil, All-cons, All-append}
 use Rattle.cv_geom.specs.Falls.{FallsAt}
+use Rattle.cv_model.specs.declared.span.Span.{Span}
 use Rattle.cv_model.specs.Positions.{Position, doubled}
 use Rattle.cv_model.specs.Views.{PixelGrid, centre_of}
 use Rattle.cv_model.specs.Polygons.{is_low, is_crossed}
@@ -11,10 +12,11 @@ use Rattle.cv_geom.specs.declared.runs.Area.{Area}
 use Rattle.cv_geom.specs.Runs.{is_on_any, IsIn, Adds}
 use Rattle.cv_scan.specs.declared.marks.Mark.{Mark}
 use Rattle.cv_scan.specs.declared.scratch.Scratch.{Scratch}
+use Rattle.cv_scan.specs.declared.pairs.Pair.{Pair}
 use Rattle.cv_scan.specs.Marks.{is_right, marks_right, MarkIn}
 use Rattle.cv_scan.specs.Planes.{HoldMarks, bit_of, bits_right, width_of}
 use Rattle.cv_scan.specs.Pairs.{PairsIn, PutsMark, pairs_right}
-use Rattle.cv_scan.specs.Held.{AddsMarks, IsHeld, held_right, crossed_before}
+use Rattle.cv_scan.specs.Held.{AddsMarks, IsHeld, PairsMarked, held_right, crossed_before}
 use Rattle.cv_scan.proofs.MarkLemmas.{level-crossed, right-append, right-cons, to_count}
 use Rattle.cv_scan.proofs.PlaneLemmas.{empty-none, right-same}
 use Rattle.cv_scan.proofs.PairLemmas.{empty-right, no-pairs}
@@ -160,6 +162,37 @@ pairs-emptied area old new held within listed first none plane = record {
 plus-zero : (n k : ℕ) → k ≡ 0 → n % 2 ≡ (n + k) % 2
 plus-zero n k none = ap (λ m. m % 2) (omega arith)
 
+-- the crossings of one row more
+crossed-next :
+    (v : PixelGrid) (a b : Position) (row column i j : ℕ)
+    → is_crossed (centre_of v i row) (a, b) ≡ nat_lt i column
+    → crossed_before v a b (row + 1) i j
+    ≡ crossed_before v a b row i j + (if is_right i j (record { row = row; column = column }) then 1 else 0)
+crossed-next v a b row column i j crossed = pick (j == row) (nat_lt j row) refl refl
+  where
+    plus-none : (b : Bool) → (if b then 1 else 0) ≡ 0 + (if b then 1 else 0)
+    plus-none true = omega arith
+    plus-none false = omega arith
+
+    pick :
+        (here before : Bool) → (j == row) ≡ here → nat_lt j row ≡ before
+        → (if nat_lt j (row + 1) then (if is_crossed (centre_of v i j) (a, b) then 1 else 0) else 0)
+        ≡ (if before then (if is_crossed (centre_of v i j) (a, b) then 1 else 0) else 0)
+        + (if here && nat_lt i column then 1 else 0)
+    pick true true same less = absurd (grind (arith, nat_tests))
+    pick true false same less =
+        let at : j ≡ row = grind (arith, nat_tests) in
+        let more : nat_lt j (row + 1) ≡ true = grind (arith, nat_tests) in
+        let told : is_crossed (centre_of v i j) (a, b) ≡ nat_lt i column =
+        ap (λ n. is_crossed (centre_of v i n) (a, b)) at ∙ crossed in
+        rw (more, told) (plus-none (nat_lt i column))
+    pick false true same less =
+        let more : nat_lt j (row + 1) ≡ true = grind (arith, nat_tests) in
+        rw more (omega arith)
+    pick false false same less =
+        let more : nat_lt j (row + 1) ≡ false = grind (arith, nat_tests) in
+        rw more (omega arith)
+
 -- one row more
 pub marks-row :
     (v : PixelGrid) (a b : Position) (area : Area) (row column : ℕ) (first old new : Scratch)
@@ -172,34 +205,65 @@ marks-row v a b area row column first old new falls before added = record {
   counted = λ i j here.
       let told = before.counted i j here in
       let more = added.counted i j here in
-      let crossed : is_crossed (centre_of v i row) (a, b) ≡ nat_lt i column = falls.falls i here.west here.east in
-      let step = by-row i j (j == row) (nat_lt j row) refl refl crossed in
+      let step = crossed-next v a b row column i j (falls.falls i here.west here.east) in
       omega arith;
 }
-  where
-    by-row :
-        (i j : ℕ) (here before : Bool) → (j == row) ≡ here → nat_lt j row ≡ before
-        → is_crossed (centre_of v i row) (a, b) ≡ nat_lt i column
-        → (if nat_lt j (row + 1) then (if is_crossed (centre_of v i j) (a, b) then 1 else 0) else 0)
-        ≡ (if before then (if is_crossed (centre_of v i j) (a, b) then 1 else 0) else 0)
-        + (if here && nat_lt i column then 1 else 0)
-    by-row i j true true same less crossed = absurd (grind (arith, nat_tests))
-    by-row i j true false same less crossed =
-        let at : j ≡ row = grind (arith, nat_tests) in
-        let more : nat_lt j (row + 1) ≡ true = grind (arith, nat_tests) in
-        let told : is_crossed (centre_of v i j) (a, b) ≡ nat_lt i column =
-        ap (λ n. is_crossed (centre_of v i n) (a, b)) at ∙ crossed in
-        rw (more, told) (plus-none (nat_lt i column))
-      where
-        plus-none : (b : Bool) → (if b then 1 else 0) ≡ 0 + (if b then 1 else 0)
-        plus-none true = omega arith
-        plus-none false = omega arith
-    by-row i j false true same less crossed =
-        let more : nat_lt j (row + 1) ≡ true = grind (arith, nat_tests) in
-        rw more (omega arith)
-    by-row i j false false same less crossed =
-        let more : nat_lt j (row + 1) ≡ false = grind (arith, nat_tests) in
-        rw more (omega arith)
+
+-- ---- the marks of an edge with those of their rows
+
+-- none yet
+pub pairs-none :
+    (v : PixelGrid) (a b : Position) (area : Area) (top row : ℕ) (pairs : List Pair)
+    → PairsMarked v a b area top (record { from = row; end = row }) pairs pairs
+pairs-none v a b area top row pairs = record { length = refl; right = λ i j here. refl; reaches = λ all. all }
+
+-- one row more
+pub pairs-row :
+    (v : PixelGrid) (a b : Position) (area : Area) (top from row column : ℕ) (old now new : List Pair)
+    → FallsAt (λ i. is_crossed (centre_of v i row) (a, b)) area.columns.from area.columns.end column
+    → PairsMarked v a b area top (record { from = from; end = row }) old now
+    → PutsMark top (record { row = row; column = column }) now new
+    → PairsMarked v a b area top (record { from = from; end = row + 1 }) old new
+pairs-row v a b area top from row column old now new falls before put = record {
+  length = put.length ∙ before.length;
+  right = λ i j here.
+      let told = before.right i j here in
+      let more = put.right i j in
+      let step = crossed-next v a b row column i j (falls.falls i here.west here.east) in
+      omega arith;
+  reaches = λ all. put.reaches area.columns.end falls.high_in (before.reaches all);
+}
+
+-- what a scan holds then
+pub pairs-held :
+    (v : PixelGrid) (a b : Position) (area : Area) (rows : Span) (old new : Scratch) → IsHeld area old
+    → PairsMarked v a b area old.first rows old.pairs.items new.pairs.items → new.first ≡ old.first
+    → new.marks.items ≡ old.marks.items → new.bits.items ≡ old.bits.items → IsHeld area new
+pairs-held v a b area rows old new held put first list plane = record {
+  pairs = record {
+    north = rw first held.pairs.north;
+    south = omega (arith, put.length, first, held.pairs.south);
+    east = put.reaches held.pairs.east;
+  };
+  within = rw list held.within;
+  room = rw plane held.room;
+}
+
+pub pairs-on :
+    (v : PixelGrid) (a b : Position) (area : Area) (rows : Span) (start old new : Scratch)
+    → PairsMarked v a b area old.first rows old.pairs.items new.pairs.items → new.first ≡ old.first
+    → new.marks.items ≡ old.marks.items → new.bits.items ≡ old.bits.items
+    → AddsMarks (crossed_before v a b rows.from) area start old → AddsMarks (crossed_before v a b rows.end) area start new
+pairs-on v a b area rows start old new put first list plane before = record {
+  held = pairs-held v a b area rows old new before.held put first list plane;
+  counted = λ i j here.
+      let more = put.right i j here in
+      let from = ap (λ n. pairs_right i j n new.pairs.items) first in
+      let marks = ap (marks_right i j) list in
+      let bits = ap (bits_right i j area) plane in
+      let told = before.counted i j here in
+      omega arith;
+}
 
 -- nothing is marked before the first row
 pub marks-none :

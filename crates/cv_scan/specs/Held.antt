@@ -1,7 +1,7 @@
 -- Held: what a scan holds of an area, marks by rows, in a list and in a plane.
 --
 -- Source: this project's own.
-use Rattle.std.specs.Prelude.{ℕ, ◌+◌, ◌%◌, ◌≡◌, ◌⊎◌, [], All, nat_lt, if◌then◌else◌}
+use Rattle.std.specs.Prelude.{ℕ, ◌+◌, ◌%◌, ◌≡◌, ◌⊎◌, List, [], length, All, nat_lt, if◌then◌else◌}
 use Rattle.cv_model.specs.declared.span.Span.{Span}
 use Rattle.cv_model.specs.Positions.{Position}
 use Rattle.cv_model.specs.Polygons.{is_crossed}
@@ -11,7 +11,8 @@ use Rattle.cv_geom.specs.Runs.{IsIn}
 use Rattle.cv_scan.specs.declared.scratch.Scratch.{Scratch}
 use Rattle.cv_scan.specs.Marks.{MarkIn, marks_right}
 use Rattle.cv_scan.specs.Planes.{HasBits, bits_right}
-use Rattle.cv_scan.specs.Pairs.{PairsIn, pairs_right}
+use Rattle.cv_scan.specs.Pairs.{PairsIn, ReachesTo, pairs_right}
+use Rattle.cv_scan.specs.declared.pairs.Pair.{Pair}
 
 -- the marks by rows and those of the list lie in the area, and the plane has a bit for each of its pixels, or no word yet
 pub record IsHeld (area : Area) (s : Scratch) : Type 0 where
@@ -40,3 +41,12 @@ abbrev pub MarksOn : PixelGrid → Position → Position → Area → Span → S
 MarksOn v a b area rows old new =
     (first : Scratch) → AddsMarks (crossed_before v a b rows.from) area first old
     → AddsMarks (crossed_before v a b rows.end) area first new
+
+-- the marks of an edge in some rows were put with those of their rows, from row `first` on
+pub record PairsMarked (v : PixelGrid) (a b : Position) (area : Area) (first : ℕ) (rows : Span) (old new : List Pair)
+    : Type 0 where
+  pub length : length new ≡ length old
+  pub right : (i j : ℕ) → IsIn area i j
+      → pairs_right i j first new + crossed_before v a b rows.from i j
+      ≡ pairs_right i j first old + crossed_before v a b rows.end i j
+  pub reaches : All (ReachesTo area.columns.end) old → All (ReachesTo area.columns.end) new

@@ -11,6 +11,7 @@
 mod blocks;
 mod crossings;
 mod fills;
+mod followed;
 mod held;
 mod marks;
 mod orders;

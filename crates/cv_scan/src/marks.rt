@@ -1,22 +1,23 @@
 //! Marks of crossings, each edge read once.
 
 ghost use Rattle.std.specs.Prelude.{◌≡◌, ◌+◌, ◌*◌, ◌≤◌, ◌<◌, ℕ, ◌++◌, ◌==◌, ◌%◌, OnOk, IfSome, length, All};
-ghost use Rattle.std.specs.Prelude.{if◌then◌else◌, None, pos, ◌*ℤ◌, ◌≤ℤ◌, int_le, unsigned_abs, ◌^◌, ◌-◌};
+ghost use Rattle.std.specs.Prelude.{if◌then◌else◌, None, pos, ◌*ℤ◌, ◌≤ℤ◌, int_le};
 ghost use Rattle.std.specs.List.{flat_map};
 ghost use Rattle.cv_model.specs.Positions.{doubled};
 ghost use Rattle.cv_model.specs.Polygons.{edges, crossings, is_crossed};
 ghost use Rattle.cv_model.specs.Views.{centre_of};
 ghost use Rattle.cv_geom.specs.Runs.{Adds, IsArea, rows_of};
-ghost use Rattle.cv_scan.specs.Held.{AddsMarks, IsHeld, MarksOn};
-ghost use Rattle.cv_scan.specs.Marks.{CrossesRows, IsBetween, MarkIn, RisesThrough, marks_right};
+ghost use Rattle.cv_scan.specs.Held.{AddsMarks, IsHeld};
+ghost use Rattle.cv_scan.specs.Marks.{CrossesRows, IsBetween, MarkIn, marks_right};
 ghost use Rattle.cv_scan.specs.Marks.{run_between, runs_from};
-ghost use Rattle.cv_scan.specs.Terms.{IsPlace, IsSlope};
+ghost use Rattle.cv_scan.specs.Terms.{IsSlope};
 
 use crate::crossings::{column_of_crossing, columns_between, row_of};
+use crate::followed::put_followed;
 use crate::held::put_mark;
 use crate::orders::bring_down;
 use crate::scratch::Scratch;
-use crate::terms::{Place, Slope, below, column_of_place, following, long_slope};
+use crate::terms::{Slope, following, long_slope};
 use cv_geom::{Area, Multiples, Run, Runs, Steps};
 use cv_model::{NoMemory, Point, Polygon, Span, View};
 use std::sync::ledger::Ledger;
@@ -187,39 +188,6 @@ fn put_rows<L: Ledger>(
             put_followed(scratch, low, high, view, area, rest, place, &slope, steps)?;
             return Ok(());
         }
-    }
-    Ok(())
-}
-
-/// Puts the marks of an edge from its lower end up in some rows, where that of the first is known and each
-/// other one follows from the one above it.
-fn put_followed<L: Ledger>(
-    scratch: &mut Scratch,
-    low: Point,
-    high: Point,
-    view: &View,
-    area: Area,
-    rows: Span,
-    first: Place,
-    slope: &Slope,
-    steps: &mut Steps<L>,
-) -> Result<(), NoMemory>
-    requires area { IsArea view.now.w view.now.h area }
-    requires held { IsHeld area scratch.old }
-    requires rows { RisesThrough view.now low high area rows }
-    requires slope { IsSlope view.now (doubled low) (doubled high) slope.now }
-    requires place { IsPlace view.now (doubled low) (doubled high) rows.from first }
-    requires near { unsigned_abs first.column ≤ 2 ^ 33 }
-    ensures marked { OnOk result (MarksOn view.now low high area rows scratch.old scratch.new) }
-    ensures cost { steps.new ≤ steps.old + (rows.end - rows.from) }
-{
-    let _unit = view.u;
-    let mut place = first;
-    for row in rows.from..rows.end {
-        steps.tick();
-        let column = column_of_place(place, low, high, view, row, area.columns);
-        put_mark(scratch, &area, Mark { row, column })?;
-        place = below(place, slope);
     }
     Ok(())
 }

@@ -84,6 +84,17 @@ pub fn put_in_pair(pairs: &mut [Pair], first: u32, mark: Mark) -> bool
     if mark.row < first || pairs.len() <= (mark.row - first) as usize {
         return false;
     }
+    put_in_row(pairs, first, mark)
+}
+
+/// Puts a mark with the one of its row, of which these are pairs, if it has no two yet.
+#[inline(always)]
+pub fn put_in_row(pairs: &mut [Pair], first: u32, mark: Mark) -> bool
+    requires north { first ≤ mark.row }
+    requires south { mark.row < first + length pairs.old }
+    ensures put { result ≡ true → PutsMark first mark pairs.old pairs.new }
+    ensures left { result ≡ false → pairs.new ≡ pairs.old }
+{
     let at = (mark.row - first) as usize;
     match with_mark(pairs[at], mark.column) {
         Some(pair) => {

@@ -2,7 +2,7 @@ use Rattle.std.proofs.Common.{◌≡◌, ◌≤ℤ◌, sym, ap, pos, arith}
 use Rattle.cv_model.specs.Positions.{doubled}
 use Rattle.cv_model.specs.Views.{PixelGrid}
 use Rattle.cv_scan.proofs.HeldLemmas.{marks-row}
-use Rattle.cv_scan.proofs.marks.put_followed.Goals as goal
+use Rattle.cv_scan.proofs.followed.put_each.Goals as goal
 
 pub loop-row-preserved : goal.loop-row-preserved
 loop-row-preserved g c =
