@@ -8,4 +8,5 @@ pub mod Planes
 pub mod Pairs
 pub mod Held
 pub mod Terms
+pub mod Narrow
 pub mod Blocks

@@ -10,6 +10,7 @@ ghost use Rattle.cv_scan.specs.Terms.{IsPlace, IsSlope};
 
 use crate::held::put_mark;
 use crate::marks::Mark;
+use crate::narrow::{narrowed, next_below, wide};
 use crate::pairs::{Pair, put_in_row};
 use crate::scratch::Scratch;
 use crate::terms::{Place, Slope, below, column_of_place};
@@ -58,7 +59,7 @@ pub fn put_followed<L: Ledger>(
 }
 
 /// Puts the marks of an edge in some rows with those of their rows, of which pairs are given from row `top` on,
-/// up to the first row that has no place for one more.
+/// up to the first row that has no place for one more; none where a number doesn't fit in 64 bits.
 fn put_in_rows<L: Ledger>(
     pairs: &mut [Pair],
     top: u32,
@@ -85,24 +86,30 @@ fn put_in_rows<L: Ledger>(
     ensures cost { steps.new ≤ steps.old + (result.row - rows.from) }
 {
     let _unit = view.u;
-    let mut place = first;
+    let none = Ahead {
+        row: rows.from,
+        place: first,
+    };
     if rows.from < top || pairs.len() < (rows.end - top) as usize {
-        return Ahead {
-            row: rows.from,
-            place,
-        };
+        return none;
     }
+    let Some((mut place, slope)) = narrowed(first, slope) else {
+        return none;
+    };
     for row in rows.from..rows.end {
-        let column = column_of_place(place, low, high, view, row, area.columns);
+        let column = column_of_place(wide(place), low, high, view, row, area.columns);
         if !put_in_row(pairs, top, Mark { row, column }) {
-            return Ahead { row, place };
+            return Ahead {
+                row,
+                place: wide(place),
+            };
         }
         steps.tick();
-        place = below(place, slope);
+        place = next_below(place, &slope);
     }
     Ahead {
         row: rows.end,
-        place,
+        place: wide(place),
     }
 }
 

@@ -14,6 +14,7 @@ mod fills;
 mod followed;
 mod held;
 mod marks;
+mod narrow;
 mod orders;
 mod pairs;
 mod planes;

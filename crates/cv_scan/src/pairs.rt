@@ -105,20 +105,15 @@ pub fn put_in_row(pairs: &mut [Pair], first: u32, mark: Mark) -> bool
     }
 }
 
-/// A pair with a mark more, unless it has two.
+/// A pair with a mark more in front, unless it has two.
 #[inline(always)]
 fn with_mark(pair: Pair, column: u32) -> Option<Pair>
     ensures { IfSome result (HasMark pair column) }
 {
-    if pair.one == 0 {
+    if pair.other == 0 {
         Some(Pair {
             one: column,
-            other: pair.other,
-        })
-    } else if pair.other == 0 {
-        Some(Pair {
-            one: pair.one,
-            other: column,
+            other: pair.one,
         })
     } else {
         None

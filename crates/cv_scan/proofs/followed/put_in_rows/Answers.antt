@@ -16,9 +16,9 @@ loop-row-preserved g c =
           c.column_of_place-column.result c.args.pairs.now c.loop-row.pairs c.put_in_row.new.pairs
           c.column_of_place-column.ensures told.marked (c.put_in_row.ensures.put c.if-not-put_in_row.false);
       place =
-          c.below-place.ensures.place v (doubled c.args.low) (doubled c.args.high) c.loop-row.row unit c.requires.slope
-          told.place;
-      near = omega (arith, told.north, told.near, c.below-place.ensures.near);
+          c.next_below-place.ensures.place v (doubled c.args.low) (doubled c.args.high) c.loop-row.row unit
+          (rw (sym c.in-Some.ensures.slope) at c.requires.slope) told.place;
+      near = omega (arith, told.north, told.near, c.next_below-place.ensures.near);
       cost = omega (arith, told.north, told.cost, c.tick.ensures);
     }
 
@@ -26,4 +26,4 @@ pub returns-clause-place : goal.returns-clause-place
 returns-clause-place g c =
     let end : c.loop-row.row ≡ c.args.rows.end =
     omega (arith, c.loop-row-test.false, c.loop-row.auto.row-end, c.requires.rows.order) in
-    rw end at c.loop-row.invariant.place
+    rw c.wide-2.ensures (rw end at c.loop-row.invariant.place)
