@@ -1,6 +1,6 @@
 -- Terms: what the place of a crossing tells of a row, and of the row below.
-use Rattle.std.proofs.Common.{◌≡◌, ◌∙◌, sym, ap, refl, ℕ, ◌+◌, ◌*◌, ◌^◌, ◌<◌, ◌≤◌, unsigned_abs, nat_lt, Bool, true, false, ℤ, pos, negsuc, neg_ℤ, ◌+ℤ◌, ◌-ℤ◌, ◌*ℤ◌, ◌≤ℤ◌, ◌<ℤ◌, int_le, int_lt, arith}
-use Rattle.std.proofs.Math.IntN.{*ℤ_comm}
+use Rattle.std.proofs.Common.{◌≡◌, ◌∙◌, sym, ap, refl, ℕ, zero, suc, ◌+◌, ◌*◌, ◌^◌, ◌<◌, ◌≤◌, unsigned_abs, nat_lt, Bool, true, false, ℤ, pos, negsuc, neg_ℤ, ◌+ℤ◌, ◌-ℤ◌, ◌*ℤ◌, ◌≤ℤ◌, ◌<ℤ◌, int_le, int_lt, arith}
+use Rattle.std.proofs.Math.IntN.{*ℤ_comm, zero-*ℤ, suc_ℤ-*ℤ, pred_ℤ-*ℤ}
 use Rattle.std.proofs.lemmas.Int.{ints}
 use Rattle.std.proofs.lemmas.Bool.Decides.{nat_tests}
 use Rattle.cv_model.specs.declared.span.Span.{Span}
@@ -138,13 +138,48 @@ place-falls v j t low high columns place unit rise low_is high_isnt is near = re
         crossed-up (centre_of v i j) a b low_is high_isnt
         ∙ ap (λ z. int_lt z (rise_of v a b j)) run ∙ not-less (run_of v a b (pos i)) (rise_of v a b j) east
 
--- a column whose centre lies less than a side east of a crossing is its place
+-- products of three
+mul-assoc : (a b c : ℤ) → (a *ℤ b) *ℤ c ≡ a *ℤ (b *ℤ c)
+mul-assoc (pos zero) b c = ap (λ z. z *ℤ c) (zero-*ℤ b) ∙ zero-*ℤ c ∙ sym (zero-*ℤ (b *ℤ c))
+mul-assoc (pos (suc k)) b c =
+    let here = mul-assoc (pos k) b c in
+    let first = ap (λ z. z *ℤ c) (suc_ℤ-*ℤ (pos k) b) ∙ add-mul (pos k *ℤ b) b c in
+    let second = suc_ℤ-*ℤ (pos k) (b *ℤ c) in
+    omega (arith, ints)
+mul-assoc (negsuc zero) b c =
+    let none = zero-*ℤ b in
+    let first = pred_ℤ-*ℤ (pos zero) b in
+    let second = pred_ℤ-*ℤ (pos zero) (b *ℤ c) in
+    let far = zero-*ℤ (b *ℤ c) in
+    let sum : b +ℤ (negsuc zero *ℤ b) ≡ pos zero = omega (arith, ints) in
+    let split = add-mul b (negsuc zero *ℤ b) c in
+    let left = ap (λ z. z *ℤ c) sum ∙ zero-*ℤ c in
+    omega (arith, ints)
+mul-assoc (negsuc (suc k)) b c =
+    let here = mul-assoc (negsuc k) b c in
+    let first = pred_ℤ-*ℤ (negsuc k) b in
+    let second = pred_ℤ-*ℤ (negsuc k) (b *ℤ c) in
+    let sum : b +ℤ (negsuc (suc k) *ℤ b) ≡ negsuc k *ℤ b = omega (arith, ints) in
+    let split = add-mul b (negsuc (suc k) *ℤ b) c in
+    let left = ap (λ z. z *ℤ c) sum in
+    omega (arith, ints)
+
+-- a column whose centre lies less than a side east of a crossing is its place, if it is so many columns west of one
+-- of the view
 pub place-is :
-    (v : PixelGrid) (a b : Position) (j i : ℕ) (over : ℤ) (slope : Slope) → pos 1 ≤ℤ v.u → IsSlope v a b slope
-    → over ≡ ((centre_of v i j).x -ℤ a.x) *ℤ (b.y -ℤ a.y) -ℤ (b.x -ℤ a.x) *ℤ ((centre_of v i j).y -ℤ a.y)
-    → pos 0 ≤ℤ over → over <ℤ slope.whole → IsPlace v a b j (record { column = pos i; over = over })
-place-is v a b j i over slope unit steep is low high = record {
-  run = let run = run-centre v a b i j unit in omega (arith, ints);
+    (v : PixelGrid) (a b : Position) (j i : ℕ) (way columns over : ℤ) (slope : Slope) → pos 1 ≤ℤ v.u
+    → IsSlope v a b slope
+    → way ≡ ((centre_of v i j).x -ℤ a.x) *ℤ (b.y -ℤ a.y) -ℤ (b.x -ℤ a.x) *ℤ ((centre_of v i j).y -ℤ a.y)
+    → over ≡ way -ℤ columns *ℤ slope.whole → pos 0 ≤ℤ over → over <ℤ slope.whole
+    → IsPlace v a b j (record { column = pos i -ℤ columns; over = over })
+place-is v a b j i way columns over slope unit steep is left low high = record {
+  run =
+      let run = run-centre v a b i j unit in
+      let back : (pos i -ℤ columns) +ℤ columns ≡ pos i = omega (arith, ints) in
+      let more = ap (run_of v a b) (sym back) ∙ run-more v a b (pos i -ℤ columns) columns in
+      let turned = mul-assoc columns (side_of v) (b.y -ℤ a.y) in
+      let whole = ap (λ z. columns *ℤ z) steep.whole in
+      omega (arith, ints);
   low = low;
   high = let whole = steep.whole in omega (arith, ints);
 }

@@ -44,17 +44,38 @@ pub fn put_followed<L: Ledger>(
     requires rows { RisesThrough view.now low high area rows }
     requires slope { IsSlope view.now (doubled low) (doubled high) slope.now }
     requires place { IsPlace view.now (doubled low) (doubled high) rows.from first }
-    requires near { unsigned_abs first.column ≤ 2 ^ 33 }
+    requires near { unsigned_abs first.column ≤ 2 ^ 34 }
     ensures marked { OnOk result (MarksOn view.now low high area rows scratch.old scratch.new) }
     ensures cost { steps.new ≤ steps.old + (rows.end - rows.from) }
 {
     let top = scratch.first;
-    let ahead = put_in_rows(&mut scratch.pairs, top, low, high, view, area, rows, first, slope, steps);
+    let ahead = put_in_rows(
+        &mut scratch.pairs,
+        top,
+        low,
+        high,
+        view,
+        area,
+        rows,
+        first,
+        slope,
+        steps,
+    );
     let rest = Span {
         from: ahead.row,
         end: rows.end,
     };
-    put_each(scratch, low, high, view, area, rest, ahead.place, slope, steps)?;
+    put_each(
+        scratch,
+        low,
+        high,
+        view,
+        area,
+        rest,
+        ahead.place,
+        slope,
+        steps,
+    )?;
     Ok(())
 }
 
@@ -76,13 +97,13 @@ fn put_in_rows<L: Ledger>(
     requires rows { RisesThrough view.now low high area rows }
     requires slope { IsSlope view.now (doubled low) (doubled high) slope.now }
     requires place { IsPlace view.now (doubled low) (doubled high) rows.from first }
-    requires near { unsigned_abs first.column ≤ 2 ^ 33 }
+    requires near { unsigned_abs first.column ≤ 2 ^ 34 }
     ensures north { rows.from ≤ result.row }
     ensures south { result.row ≤ rows.end }
     ensures marked { PairsMarked view.now low high area top
         (record { from = rows.from; end = result.row }) pairs.old pairs.new }
     ensures place { IsPlace view.now (doubled low) (doubled high) result.row result.place }
-    ensures near { unsigned_abs result.place.column ≤ 2 ^ 33 + (result.row - rows.from) * 2 ^ 30 }
+    ensures near { unsigned_abs result.place.column ≤ 2 ^ 34 + (result.row - rows.from) * 2 ^ 30 }
     ensures cost { steps.new ≤ steps.old + (result.row - rows.from) }
 {
     let _unit = view.u;
@@ -130,7 +151,7 @@ fn put_each<L: Ledger>(
     requires rows { RisesThrough view.now low high area rows }
     requires slope { IsSlope view.now (doubled low) (doubled high) slope.now }
     requires place { IsPlace view.now (doubled low) (doubled high) rows.from first }
-    requires near { unsigned_abs first.column ≤ 2 ^ 33 + rows.from * 2 ^ 30 }
+    requires near { unsigned_abs first.column ≤ 2 ^ 34 + rows.from * 2 ^ 30 }
     ensures marked { OnOk result (MarksOn view.now low high area rows scratch.old scratch.new) }
     ensures cost { steps.new ≤ steps.old + (rows.end - rows.from) }
 {

@@ -17,7 +17,7 @@ use crate::followed::put_followed;
 use crate::held::put_mark;
 use crate::orders::bring_down;
 use crate::scratch::Scratch;
-use crate::terms::{Slope, following, long_slope};
+use crate::terms::{Slope, first_place, following, long_slope};
 use cv_geom::{Area, Multiples, Run, Runs, Steps};
 use cv_model::{NoMemory, Point, Polygon, Span, View};
 use std::sync::ledger::Ledger;
@@ -126,7 +126,8 @@ fn is_upwards(a: Point, b: Point) -> bool
     a.y <= b.y
 }
 
-/// Puts the marks of an edge from its lower end up, as `put_edge`.
+/// Puts the marks of an edge from its lower end up, as `put_edge`. Where its slope is known, that of the first
+/// row is mostly found from the column of its upper end, and the others follow it.
 fn put_up<L: Ledger>(
     scratch: &mut Scratch,
     low: Point,
@@ -141,14 +142,19 @@ fn put_up<L: Ledger>(
     requires sides { pos sides.now ≡ pos 2 *ℤ view.now.u }
     requires area { IsArea view.now.w view.now.h area }
     requires held { IsHeld area scratch.old }
+    requires some { rows.from < rows.end }
     requires crossed { CrossesRows view.now low high area rows }
     ensures marked { OnOk result (AddsMarks
         (λ i j. if is_crossed (centre_of view.now i j) (low, high) then 1 else 0) area
         scratch.old scratch.new) }
     ensures cost { steps.new ≤ steps.old + rows_of area }
 {
-    let between = columns_between(low, high, view, sides, area.columns);
     let slope = long_slope(low, high, view, rows);
+    if let Some((slope, place)) = first_place(&slope, low, high, view, sides, rows.from) {
+        put_followed(scratch, low, high, view, area, rows, place, &slope, steps)?;
+        return Ok(());
+    }
+    let between = columns_between(low, high, view, sides, area.columns);
     put_rows(scratch, low, high, view, area, rows, between, slope, steps)
 }
 

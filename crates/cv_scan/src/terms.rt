@@ -8,7 +8,8 @@ ghost use Rattle.cv_model.specs.Views.{PixelGrid, centre_of};
 ghost use Rattle.cv_geom.specs.Falls.{FallsAt};
 ghost use Rattle.cv_scan.specs.Terms.{IsNearest, IsPlace, IsSlope};
 
-use cv_geom::{centre, distance, distance_to, product};
+use crate::crossings::column_of;
+use cv_geom::{Multiples, centre, distance, distance_to, product};
 use cv_model::{Point, Point2, Span, View};
 
 /// Where a line crosses the height of a row: `column` is the first one whose centre doesn't lie left of it,
@@ -150,6 +151,35 @@ fn nearest(column: i64, columns: Span) -> u32
     }
 }
 
+/// The slope of a line, and the place of its crossing with the height of a row, if they are known, from the
+/// column of its upper end.
+pub fn first_place(
+    slope: &Option<Slope>,
+    low: Point,
+    high: Point,
+    view: &View,
+    sides: &Multiples,
+    row: u32,
+) -> Option<(Slope, Place)>
+    requires sides { pos sides.now ≡ pos 2 *ℤ view.now.u }
+    requires row { row < view.now.h }
+    requires slope { IfSome slope.now (λ slope. IsSlope view.now (doubled low) (doubled high) slope) }
+    ensures slope { IfSome result (λ first. IsSlope view.now (doubled low) (doubled high) first.0) }
+    ensures place { IfSome result (λ first. IsPlace view.now (doubled low) (doubled high) row first.1) }
+    ensures near { IfSome result (λ first. unsigned_abs first.1.column ≤ 2 ^ 34) }
+{
+    let Some(slope) = slope else {
+        return None;
+    };
+    let columns = Span {
+        from: 0,
+        end: view.w - 1,
+    };
+    let column = column_of(high, view, sides, columns);
+    let place = place_of(slope, low, high, view, row, column)?;
+    Some((*slope, place))
+}
+
 /// The slope of a line, and the place of its crossing with the height of the row below, if they are known,
 /// from the column that was found in a row.
 pub fn following(
@@ -164,7 +194,7 @@ pub fn following(
     requires slope { IfSome slope.now (λ slope. IsSlope view.now (doubled low) (doubled high) slope) }
     ensures slope { IfSome result (λ next. IsSlope view.now (doubled low) (doubled high) next.0) }
     ensures place { IfSome result (λ next. IsPlace view.now (doubled low) (doubled high) (row + 1) next.1) }
-    ensures near { IfSome result (λ next. unsigned_abs next.1.column ≤ 2 ^ 33) }
+    ensures near { IfSome result (λ next. unsigned_abs next.1.column ≤ 2 ^ 34) }
 {
     let _unit = view.u;
     let Some(slope) = slope else {
@@ -174,7 +204,8 @@ pub fn following(
     Some((*slope, below(here, slope)))
 }
 
-/// The place of a column in a row, if it is the first one whose centre doesn't lie left of the line.
+/// The place of the crossing with the height of a row, from a column near it, as far as it is found at once:
+/// always where the column is the first one whose centre doesn't lie left of the line.
 fn place_of(
     slope: &Slope,
     low: Point,
@@ -186,15 +217,16 @@ fn place_of(
     requires row { row < view.now.h }
     requires slope { IsSlope view.now (doubled low) (doubled high) slope.now }
     ensures place { IfSome result (λ place. IsPlace view.now (doubled low) (doubled high) row place) }
-    ensures near { IfSome result (λ place. unsigned_abs place.column ≤ 2 ^ 32) }
+    ensures near { IfSome result (λ place. unsigned_abs place.column ≤ 2 ^ 33) }
 {
     if view.w <= column {
         return None;
     }
-    let over = way_east(low, high, centre(view, column, row));
+    let way = way_east(low, high, centre(view, column, row));
+    let (columns, over) = divided(way, slope.whole);
     if 0 <= over && over < slope.whole {
         Some(Place {
-            column: i64::from(column),
+            column: i64::from(column) - columns,
             over,
         })
     } else {
@@ -202,11 +234,51 @@ fn place_of(
     }
 }
 
+/// A quotient and what is left of a number then. Nothing is known of the quotient but that it is short: whoever
+/// calls it sees by what is left whether it is right.
+fn divided(number: i128, by: i128) -> (i64, i128)
+    requires { unsigned_abs number ≤ 2 ^ 125 }
+    ensures left { result.1 ≡ number -ℤ result.0 *ℤ by }
+    ensures short { unsigned_abs result.0 ≤ 2 ^ 32 }
+{
+    match (i64::try_from(number), i64::try_from(by)) {
+        (Ok(short), Ok(by)) => {
+            let quotient = quotient_near(short, by);
+            (quotient, number - product(quotient, by))
+        }
+        _ => (0, number),
+    }
+}
+
+/// About how often a number goes into another, by a division of their first 32 bits.
+fn quotient_near(number: i64, by: i64) -> i64
+    ensures { unsigned_abs result ≤ 2 ^ 32 }
+{
+    let (size, by) = (number.unsigned_abs(), by.unsigned_abs());
+    let shift = 32u32.saturating_sub((size | by).leading_zeros());
+    let Some(quotient) = first_bits(size, shift).checked_div(first_bits(by, shift)) else {
+        return 0;
+    };
+    if number < 0 {
+        -1 - i64::from(quotient)
+    } else {
+        i64::from(quotient)
+    }
+}
+
+/// A number without its last bits, in 32 bits.
+fn first_bits(number: u64, shift: u32) -> u32
+    requires { shift ≤ 32 }
+{
+    ((number >> shift) & 0xffff_ffff) as u32
+}
+
 /// How far a position lies east of the line from a point up to another, times the line's way up.
 fn way_east(low: Point, high: Point, p: Point2) -> i128
-    ensures { result
+    ensures value { result
         ≡ (p.x -ℤ (doubled low).x) *ℤ ((doubled high).y -ℤ (doubled low).y)
         -ℤ ((doubled high).x -ℤ (doubled low).x) *ℤ (p.y -ℤ (doubled low).y) }
+    ensures bound { unsigned_abs result ≤ 2 ^ 125 }
 {
     run_at(low, high, p) - rise_at(low, high, p)
 }

@@ -12,6 +12,6 @@ invariant-loop-row g l = record {
   marked :
       MarksOn l.view l.low l.high l.fn.area (record { from = l.fn.rows.from; end = l.row }) l.fn.scratch l.scratch;
   place : IsPlace l.view (doubled l.low) (doubled l.high) l.row l.place;
-  near : unsigned_abs l.place.column ≤ 2 ^ 33 + l.row * 2 ^ 30;
+  near : unsigned_abs l.place.column ≤ 2 ^ 34 + l.row * 2 ^ 30;
   cost : l.steps + (l.fn.rows.end - l.row) ≤ l.fn.steps + (l.fn.rows.end - l.fn.rows.from);
 }

@@ -12,6 +12,6 @@ invariant-loop-row g l = record {
   marked :
       PairsMarked l.view l.low l.high l.fn.area l.fn.top (record { from = l.fn.rows.from; end = l.row }) l.fn.pairs l.pairs;
   place : IsPlace l.view (doubled l.low) (doubled l.high) l.row (wide_place l.place);
-  near : unsigned_abs l.place.column ≤ 2 ^ 33 + (l.row - l.fn.rows.from) * 2 ^ 30;
+  near : unsigned_abs l.place.column ≤ 2 ^ 34 + (l.row - l.fn.rows.from) * 2 ^ 30;
   cost : l.steps ≤ l.fn.steps + (l.row - l.fn.rows.from);
 }
