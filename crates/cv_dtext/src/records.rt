@@ -35,8 +35,8 @@ pub fn records(alloc: Global, bytes: &[u8], delimiter: Delimiter) -> Reader<&[u8
         .from_reader(alloc, bytes)
 }
 
-/// The next record as bytes, if there is one; it is counted by this number. It takes the place of a record that
-/// is of no more use, and its memory.
+/// The next record as bytes, if there is one; it is counted by this number. It takes the place of a record
+/// that is of no more use, and its memory.
 fn next_bytes(
     reader: &mut Reader<&[u8]>,
     spent: ByteRecord,
