@@ -2,6 +2,7 @@
 
 ghost use Rattle.std.specs.Prelude.{◌≡◌, ◌<◌, ◌≤◌, ◌+◌, ◌++◌, ◌∷◌, ◌^◌, [], length, slice_get, slice_set};
 ghost use Rattle.std.specs.Prelude.{OnOk, OnErr, IfErr, IfOk, insert, remove};
+ghost use Rattle.std.specs.List.{flat_map};
 ghost use Rattle.std.specs.Option.{option_copied};
 ghost use Rattle.cv_chunks.specs.Clones.{ClonesAreEqual};
 ghost use Rattle.cv_chunks.specs.Parts.{IsRunFrom};
@@ -11,7 +12,7 @@ ghost use Rattle.std.specs.Prelude.{IsSome};
 use crate::NoMemory;
 use crate::chunk::Chunk;
 use crate::group::Group;
-use crate::part::{insert_in, remove_in, rows_of, run_in, set_in};
+use crate::part::{insert_in, remove_in, rows_of, run_in, set_in, total_of};
 use std::alloc::{AllocError, Global};
 use std::marker::Model;
 use std::sync::Arc;
@@ -114,9 +115,15 @@ impl<T: Drop> Chunked<T> {
         ensures { IfOk result (λ made. made ≡ elements.items) }
     {
         let alloc = *elements.allocator();
-        let count = elements.len() as u64;
-        let chunks: Vec<Chunk<T>> = rows_of(elements)?;
+        Chunked::of_chunks(alloc, rows_of(elements)?)
+    }
+
+    /// The list of the elements of these chunks, in order. A refusal drops them.
+    pub(crate) fn of_chunks(alloc: Global, chunks: Vec<Chunk<T>>) -> Result<Chunked<T>, NoMemory>
+        ensures { IfOk result (λ made. made ≡ flat_map (λ chunk. chunk) chunks.items) }
+    {
         let groups: Vec<Group<T>> = rows_of(chunks)?;
+        let count = total_of(groups.as_slice())?;
         let root = Arc::new(alloc, groups)?;
         Ok(Chunked {
             count,

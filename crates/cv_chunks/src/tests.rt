@@ -1,7 +1,7 @@
 //! What no clause says: each call that takes memory can answer, and a list works at types that must be
 //! dropped.
 use crate::threads::lengths_by_threads;
-use crate::{Buckets, Chunked, RowRange, Shared, total_length};
+use crate::{Buckets, Chunked, Growing, RowRange, Shared, total_length};
 use std::alloc::Global;
 use std::process::Abort;
 use std::test::Fail;
@@ -173,6 +173,21 @@ fn a_value_is_put_between(rt: HostRuntime) -> Result<(), Fail> {
     assert_eq!(rt;
         elements(&rt, rt.alloc(), &share)?.as_slice(),
         [7, 8].as_slice()
+    );
+    Ok(())
+}
+
+#[test]
+fn a_list_is_made_one_by_one(rt: HostRuntime) -> Result<(), Fail> {
+    let plain = (0..300u32).collect::<Vec<u32>>(rt.alloc())?;
+    let mut growing = Growing::new(rt.alloc());
+    for value in plain.as_slice() {
+        growing.put(*value)?;
+    }
+    let list = growing.finish()?;
+    assert_eq!(rt;
+        elements(&rt, rt.alloc(), &list)?.as_slice(),
+        plain.as_slice()
     );
     Ok(())
 }

@@ -10,7 +10,7 @@ ghost use Rattle.cv_dtext.specs.Gathered.{tabled};
 use crate::gathered::Gathered;
 use crate::options::{TextError, TextOptions};
 use crate::records::next_texts;
-use csv::{Reader, StringRecord};
+use csv::{ByteRecord, Reader, StringRecord};
 use cv_model::MOST_BYTES;
 use std::alloc::Global;
 
@@ -40,12 +40,14 @@ pub fn gather(
         (records_left slice_left options.now.delimiter reader.old) ≡ Err e) }
 {
     let mut gathered = Gathered::new(alloc);
+    let mut spent = ByteRecord::new(alloc);
     for number in 1..END {
-        let next = next_texts(alloc, reader, number)?;
+        let next = next_texts(reader, spent, number)?;
         let Some(texts) = next else {
             return Ok(gathered);
         };
         gathered.add(alloc, &texts, place, number, &options.room)?;
+        spent = texts.into_byte_record();
     }
     Err(TextError::TooMany)
 }

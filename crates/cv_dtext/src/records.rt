@@ -35,17 +35,18 @@ pub fn records(alloc: Global, bytes: &[u8], delimiter: Delimiter) -> Reader<&[u8
         .from_reader(alloc, bytes)
 }
 
-/// The next record as bytes, if there is one; it is counted by this number.
+/// The next record as bytes, if there is one; it is counted by this number. It takes the place of a record
+/// that is of no more use, and its memory.
 fn next_bytes(
-    alloc: Global,
     reader: &mut Reader<&[u8]>,
+    spent: ByteRecord,
     number: u32,
 ) -> Result<Option<ByteRecord>, TextError>
     ensures { (d : Delimiter) (s : State) (left : List ℕ) (width : Option ℕ)
         → Stands slice_left d reader.old s left width
         → IsNext slice_left d s left width number reader.new result }
 {
-    let mut found = ByteRecord::new(alloc);
+    let mut found = spent;
     match reader.read_byte_record(&mut found) {
         Ok(true) => Ok(Some(found)),
         Ok(false) => Ok(None),
@@ -56,16 +57,17 @@ fn next_bytes(
     }
 }
 
-/// The next record of texts, if there is a record; it is counted by this number.
+/// The next record of texts, if there is a record; it is counted by this number. It takes the place of a
+/// record that is of no more use, and its memory.
 pub fn next_texts(
-    alloc: Global,
     reader: &mut Reader<&[u8]>,
+    spent: ByteRecord,
     number: u32,
 ) -> Result<Option<StringRecord>, TextError>
     ensures { (d : Delimiter) → IsBetween slice_left d reader.old
         → IsNextTexts slice_left d number reader.old reader.new result }
 {
-    let next = next_bytes(alloc, reader, number)?;
+    let next = next_bytes(reader, spent, number)?;
     let Some(found) = next else {
         return Ok(None);
     };

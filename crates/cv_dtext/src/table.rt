@@ -7,6 +7,7 @@ use crate::features::gather;
 use crate::fields::{column, other_texts};
 use crate::options::{TextError, TextOptions};
 use crate::records::{next_texts, records};
+use csv::ByteRecord;
 use cv_model::{FeatureList, MOST_BYTES};
 use std::alloc::Global;
 
@@ -22,7 +23,7 @@ pub fn read_table(
         → features_of options.now bytes.now ≡ Err e) }
 {
     let mut reader = records(alloc, bytes, options.delimiter);
-    let next = next_texts(alloc, &mut reader, 0)?;
+    let next = next_texts(&mut reader, ByteRecord::new(alloc), 0)?;
     let Some(header) = next else {
         return Err(TextError::NoHeader);
     };

@@ -9,7 +9,7 @@ ghost use Rattle.cv_model.specs.declared.feature.Feature.{Feature};
 ghost use Rattle.cv_layer.specs.Tables.{Ascend, IsBetween, IsTable, feature_values};
 
 use crate::row::{FeatureRow, no_values};
-use cv_chunks::{Chunked, Shared};
+use cv_chunks::{Chunked, Growing, Shared};
 use cv_model::{Feature, FeatureList, Geometry, NoMemory, Text, Values};
 use std::alloc::{AllocError, Global};
 use std::marker::Model;
@@ -39,10 +39,11 @@ impl Model for Table {
         t.ascending t.vertices t.values };
 }
 
-/// Rows, with the counts of their vertices and of their values.
+/// Rows, whether their ids are known to ascend, and the counts of their vertices and of their values.
 #[derive(Drop)]
 struct Counted {
-    rows: Vec<FeatureRow>,
+    rows: Chunked<FeatureRow>,
+    ascending: bool,
     vertices: u64,
     values: u64,
 }
@@ -54,43 +55,41 @@ fn sum(a: u64, b: u64) -> Result<u64, NoMemory>
     a.checked_add(b).ok_or(AllocError)
 }
 
-/// The rows of these features, in order. The features are moved into them. Each is counted while its row is
+/// Whether ids that ascend, or don't, and are less than a number, ascend with a further one.
+fn still_ascend(ascending: bool, least: u64, id: u32) -> bool
+    ensures { result ≡ true → (ascending ≡ true) × (least ≤ id) }
+{
+    ascending && least <= u64::from(id)
+}
+
+/// The rows of these features, in order. The features are moved into them. Each is looked at while its row is
 /// made, as its geometry is at hand then.
 fn rows_of(alloc: Global, features: Vec<Feature>) -> Result<Counted, NoMemory>
-    ensures rows { IfOk result (λ made. made.rows.items ≡ features.items) }
+    ensures rows { IfOk result (λ made. made.rows ≡ features.items) }
+    ensures ascend { IfOk result (λ made. made.ascending ≡ true → Ascend (ids_of features.items)) }
     ensures vertices { IfOk result (λ made. made.vertices ≡ sum_by feature_vertices features.items) }
     ensures values { IfOk result (λ made. made.values ≡ sum_by feature_values features.items) }
 {
-    let mut rows = Vec::with_capacity(alloc, features.len())?;
+    let mut rows = Growing::new(alloc);
     let none = no_values(alloc)?;
+    let mut ascending = true;
+    let mut least: u64 = 0;
     let mut vertices: u64 = 0;
     let mut values: u64 = 0;
     for feature in features {
         let row = FeatureRow::of(alloc, feature, &none)?;
+        ascending = still_ascend(ascending, least, row.id());
+        least = u64::from(row.id()) + 1;
         vertices = sum(vertices, row.vertices()?)?;
         values = sum(values, row.values().len() as u64)?;
-        rows.push(row)?;
+        rows.put(row)?;
     }
     Ok(Counted {
-        rows,
+        rows: rows.finish()?,
+        ascending,
         vertices,
         values,
     })
-}
-
-/// Whether each feature's id is less than those of the features behind it.
-fn ids_ascend(rows: &[FeatureRow]) -> bool
-    ensures { result ≡ true → Ascend (ids_of rows.now) }
-{
-    let mut least: u64 = 0;
-    for row in rows {
-        let id = u64::from(row.id());
-        if id < least {
-            return false;
-        }
-        least = id + 1;
-    }
-    true
 }
 
 /// The place of the feature with an id, where the ids ascend.
@@ -204,12 +203,11 @@ impl Table {
             Err(refused) => return Err(refused.1),
         };
         let made = rows_of(alloc, features.into_vec())?;
-        let ascending = ids_ascend(made.rows.as_slice());
         Ok(Table {
             alloc,
             columns,
-            rows: Chunked::of(made.rows)?,
-            ascending,
+            rows: made.rows,
+            ascending: made.ascending,
             vertices: made.vertices,
             values: made.values,
         })
