@@ -1,6 +1,6 @@
 -- The entries of a cache by their keys, and its paintings by their layers.
 use Rattle.std.proofs.Common.{◌≡◌, ◌∙◌, sym, ap, refl, subst, ℕ, zero, suc, ◌-◌, ◌<◌, ◌≤◌, ◌==◌, nat_eq, Bool, true}
-use Rattle.std.proofs.Common.{false, not, cond, List, [], ◌∷◌, ◌++◌, length, find, take, Option, Some, None}
+use Rattle.std.proofs.Common.{false, not, cond, List, [], ◌∷◌, ◌++◌, map, length, find, take, Option, Some, None}
 use Rattle.std.proofs.Common.{option_map, option_to_list, arith, if◌then◌else◌, take_all, Result, Ok, Err, IfOk, OnOk, OnErr}
 use Rattle.std.proofs.Common.{IfSome, IsSomeAnd, MatchOption}
 use Rattle.std.specs.List.{AllByRecursion, IsDistinct}
@@ -146,7 +146,7 @@ keyed_taken zero es keyed = tt
 keyed_taken (suc n) [] keyed = tt
 keyed_taken (suc n) (e ∷ es) keyed = (keyed.0, keyed_taken n es keyed.1)
 
-length_values : (es : Entries) → length (values_of es) ≡ length es
+pub length_values : (es : Entries) → length (values_of es) ≡ length es
 length_values [] = refl
 length_values (e ∷ es) = ap suc (length_values es)
 
@@ -265,6 +265,18 @@ dependent_removed layer (x ∷ es) e apart h = by (depends layer x) refl h (depe
               ∙ sym (ap (λ b. if not b then x.1 ∷ independent layer (values_of es) else independent layer (values_of es)) is),
           ap (λ b. suc (length (cond b es (x ∷ remove_entry (nat_eq e.0) es)))) key ∙ ap suc rest.1,
         )
+
+-- ---- how many there are
+
+-- no layers differ
+pub none_apart : IsDistinct nat_eq (map painted_id [])
+unfolding IsDistinct
+none_apart = tt
+
+-- layers are the keys
+pub ids_are : (es : Entries) → IsKeyed es → map painted_id (values_of es) ≡ keys_of es
+ids_are [] keyed = refl
+ids_are (e ∷ es) keyed = ap (λ id. id ∷ map painted_id (values_of es)) (sym keyed.0) ∙ ap (λ ids. e.0 ∷ ids) (ids_are es keyed.1)
 
 -- ---- what a look makes of a cache that is there
 

@@ -1,7 +1,8 @@
 //! The cache of a canvas.
 
-ghost use Rattle.std.specs.Prelude.{◌≡◌, [], OnOk, OnErr, IfOk, IfErr};
-ghost use Rattle.cv_cache.specs.Caches.{CacheParts, Looked, Serves, put_front, independent};
+ghost use Rattle.std.specs.Prelude.{◌≡◌, ◌≤◌, nat_eq, [], length, map, OnOk, OnErr, IfOk, IfErr};
+ghost use Rattle.std.specs.List.{IsDistinct};
+ghost use Rattle.cv_cache.specs.Caches.{CacheParts, Looked, Serves, painted_id, put_front, independent};
 ghost use Rattle.cv_model.specs.Paintings.{Painting};
 ghost use Rattle.cv_layer.specs.Stamps.{stamp_list};
 
@@ -15,7 +16,7 @@ use std::marker::Model;
 use std::num::NonZeroUsize;
 
 /// The images of a canvas's layers, seen as the list of the painted layers, the one that was used last first,
-/// and the capacity. No two of them are of one layer.
+/// and the capacity. No two of them are of one layer, and they are at most the capacity: `len` says so.
 #[derive(Drop)]
 pub struct LayerCache {
     images: Option<Images>,
@@ -80,6 +81,18 @@ impl LayerCache {
             return Ok(());
         };
         held::put(images, painted)
+    }
+
+    /// How many images it has: at most the capacity, and no two of one layer. Takes no memory.
+    pub fn len(&self) -> usize
+        ensures len { result ≡ length self.now.paintings }
+        ensures few { length self.now.paintings ≤ self.now.capacity }
+        ensures apart { IsDistinct nat_eq (map painted_id self.now.paintings) }
+    {
+        match &self.images {
+            Some(images) => held::count(images),
+            None => 0,
+        }
     }
 
     /// Takes all images out. Takes no memory.

@@ -65,6 +65,15 @@ pub(crate) fn put(
     }
 }
 
+/// How many images there are.
+pub(crate) fn count(images: &Images) -> usize
+    ensures len { result ≡ length images.now.entries }
+    ensures few { length images.now.entries ≤ images.now.cap }
+    ensures apart { IsDistinct nat_eq (keys_of images.now.entries) }
+{
+    images.len()
+}
+
 /// The layer of the first image that depends on a layer.
 fn first_dependent(images: &Images, layer: u32) -> Option<u32>
     ensures found { result ≡ option_map (λ e. e.0) (find (λ e. depends_on layer e.1) images.now.entries) }

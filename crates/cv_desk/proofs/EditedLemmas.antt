@@ -25,6 +25,7 @@ use Rattle.cv_desk.specs.Desks.{History, state, IsPresent, IsWhole, IsCurrent, I
 use Rattle.cv_desk.specs.Answers.{EditAnswer, EditNotes}
 use Rattle.cv_desk.proofs.BasisLemmas.{jobs_edited_kept, edited_layers}
 use Rattle.cv_desk.proofs.KeepingLemmas.{noted}
+use Rattle.cv_desk.proofs.NamedLemmas.{named_all}
 use Rattle.cv_desk.proofs.SeenLemmas.{jobs_edited}
 
 -- ---- what a layer is painted from tells on what it depends
@@ -234,6 +235,7 @@ edit_noted h who left e u journal kept edited in_order tabs rows longer room owe
     (edit_seen h who e u.store edited kept.holds ∙ ap state_of same)
     (subst (λ t. Holds t left) same (edit_holds h.tables u.store e h.spare left edited room owes kept.holds))
     (subst (KeepJobs h.tables.rows) (sym rows) (jobs_edited_kept e h.tables.rows)) edited refl
+    (named_all h.tables.rows (tab_edited e) (λ tab. refl) h.tables.tabs u.tabs tabs kept.named)
 
 -- ---- a refused edit
 

@@ -27,8 +27,9 @@ use Rattle.cv_tables.specs.Rows.{row_cancelled, new_row, missed_in, missed_weigh
 use Rattle.cv_tables.specs.Tabs.{Tab, Tables, canvas_of, tab_viewed, tab_publishes, state_of}
 use Rattle.cv_tables.proofs.TableLemmas.{owed_change, owed_more, lighter, weight_within}
 use Rattle.cv_tables.proofs.RowLemmas.{ended_live}
-use Rattle.cv_desk.specs.Desks.{History, state, IsFresh, AreFresh, IsWhole, IsCurrent, Holds, IsRevised, IsDesk, Notes, KeepJobs}
+use Rattle.cv_desk.specs.Desks.{History, state, IsFresh, AreFresh, IsWhole, IsCurrent, Holds, IsRevised, IsDesk, Notes, KeepJobs, AreNamed}
 use Rattle.cv_desk.proofs.BasisLemmas.{jobs_ended_kept, jobs_stand_kept, jobs_started_kept, standing_layers}
+use Rattle.cv_desk.proofs.NamedLemmas.{named_kept, named_published}
 use Rattle.cv_desk.proofs.RevisedLemmas.{StoreGoes, revised_on, revised_started}
 use Rattle.cv_desk.proofs.SeenLemmas.{jobs_ended, jobs_started, jobs_stand, job_seen, canvases_viewed, canvases_published}
 
@@ -55,13 +56,14 @@ shows_on h journal who a u kept longer made =
 
 pub kept_more : (h : History) (journal : List Entry) (who : ℕ) (a : Act) (u : Tables) (left : ℕ) → IsDesk h
     → journal ≡ h.journal ++ record { caller = who; act = a } ∷ [] → Allows (state h) who a → did (state h) who a ≡ state_of u
-    → Holds u left → IsRevised h.opening.project journal u
+    → Holds u left → IsRevised h.opening.project journal u → AreNamed u.rows u.tabs
     → IsDesk (record { opening = h.opening; journal = journal; spare = left; tables = u })
-kept_more h journal who a u left kept longer allowed made holds revised = record {
+kept_more h journal who a u left kept longer allowed made holds revised named = record {
   legal = legal_on h journal who a kept longer allowed;
   shows = shows_on h journal who a u kept longer made;
   holds = holds;
   revised = revised;
+  named = named;
 }
 
 -- what an act that is no start leaves behind the journal
@@ -154,7 +156,8 @@ ended_noted h how a who j left rows journal kept live made longer room allowed d
     let jobs = subst (KeepJobs h.tables.rows) (sym made) (jobs_ended_kept how j h.tables.rows) in
     let goes = subst (λ o. StoreGoes h.tables.store o h.tables.store) (sym edits) refl in (
       kept_more h journal who a (record h.tables { rows = rows }) left kept longer allowed seen holds
-          (act_revised h journal who a (record h.tables { rows = rows }) kept longer allowed seen jobs goes starts),
+          (act_revised h journal who a (record h.tables { rows = rows }) kept longer allowed seen jobs goes starts)
+          (named_kept h.tables.rows rows h.tables.tabs jobs kept.named),
       record { opening = refl; journal = longer; becomes = sym seen; allowed = allowed; jobs = jobs },
     )
 
@@ -163,11 +166,11 @@ ended_noted h how a who j left rows journal kept live made longer room allowed d
 -- what comes of an entry with tables of the state behind it
 noted_with : (h : History) (a : Act) (who left : ℕ) (u : Tables) (journal : List Entry) → IsDesk h
     → journal ≡ h.journal ++ record { caller = who; act = a } ∷ [] → Allows (state h) who a → did (state h) who a ≡ state_of u
-    → Holds u left → KeepJobs h.tables.rows u.rows → IsRevised h.opening.project journal u
+    → Holds u left → KeepJobs h.tables.rows u.rows → IsRevised h.opening.project journal u → AreNamed h.tables.rows u.tabs
     → let new : History = record { opening = h.opening; journal = journal; spare = left; tables = u } in
     IsDesk new × Notes h new who a
-noted_with h a who left u journal kept longer allowed seen holds jobs revised = (
-  kept_more h journal who a u left kept longer allowed seen holds revised,
+noted_with h a who left u journal kept longer allowed seen holds jobs revised named = (
+  kept_more h journal who a u left kept longer allowed seen holds revised (named_kept h.tables.rows u.rows u.tabs jobs named),
   record { opening = refl; journal = longer; becomes = sym seen; allowed = allowed; jobs = jobs },
 )
 
@@ -175,11 +178,12 @@ noted_with h a who left u journal kept longer allowed seen holds jobs revised = 
 pub noted : (h : History) (a : Act) (who left : ℕ) (u : Tables) (journal : List Entry) → IsDesk h
     → journal ≡ h.journal ++ record { caller = who; act = a } ∷ [] → Allows (state h) who a → did (state h) who a ≡ state_of u
     → Holds u left → KeepJobs h.tables.rows u.rows → StoreGoes h.tables.store (accepted_edit a) u.store → start_of a ≡ None
+    → AreNamed h.tables.rows u.tabs
     → let new : History = record { opening = h.opening; journal = journal; spare = left; tables = u } in
     IsDesk new × Notes h new who a
-noted h a who left u journal kept longer allowed seen holds jobs goes starts =
+noted h a who left u journal kept longer allowed seen holds jobs goes starts named =
     noted_with h a who left u journal kept longer allowed seen holds jobs
-    (act_revised h journal who a u kept longer allowed seen jobs goes starts)
+    (act_revised h journal who a u kept longer allowed seen jobs goes starts) named
 
 -- an entry that changes nothing
 pub same_holds : (t : Tables) (spare left : ℕ) → spare ≤ left + 1 → owed t.rows + 1 ≤ spare → Holds t spare → Holds t left
@@ -319,7 +323,7 @@ start_noted h who c j left view rows journal kept apart there is few made longer
     let jobs = subst (KeepJobs h.tables.rows) (sym made) (jobs_started_kept c fresh h.tables.rows) in
     noted_with h (act.Start c j) who left u journal kept longer (started_rows h who c j view there is few)
     (start_seen h who c j view rows there made) holds jobs
-    (revised_started h journal (record { caller = who; act = act.Start c j }) u c fresh kept longer jobs refl refl made refl)
+    (revised_started h journal (record { caller = who; act = act.Start c j }) u c fresh kept longer jobs refl refl made refl) kept.named
 
 -- ---- a delivery
 
@@ -416,7 +420,7 @@ delivered_noted h fate who j at left standing rows journal r x kept there is was
     let seen = does
     ∙ ap (λ l. record (state h) { jobs = l }) (sym (jobs_stand at standing h.tables.rows j) ∙ ap (map job_of) (sym made)) in
     noted h (act.Deliver j at fate) who left (record h.tables { rows = rows }) journal kept longer allowed seen holds
-    (subst (KeepJobs h.tables.rows) (sym made) (jobs_stand_kept at standing j h.tables.rows)) refl refl
+    (subst (KeepJobs h.tables.rows) (sym made) (jobs_stand_kept at standing j h.tables.rows)) refl refl kept.named
 
 -- ---- a finish
 
@@ -464,6 +468,7 @@ finish_noted h who j left tabs rows journal r kept there composer none published
     noted h (act.Finish j) who left (record h.tables { tabs = tabs; rows = rows }) journal kept longer allowed
     (finish_seen h who j r tabs rows there published made) holds
     (subst (KeepJobs h.tables.rows) (sym made) (jobs_ended_kept Finished j h.tables.rows)) refl refl
+    (named_published h.tables.rows j r h.tables.tabs tabs there published kept.named)
 
 pub room_for_row : (h : History) (j : ℕ) (r : Row) → IsDesk h → row_in h.tables.rows j ≡ Some r → r.ended ≡ None → 1 ≤ h.spare
 room_for_row h j r kept there none =

@@ -106,6 +106,7 @@ shows_canvas h kept c tab there =
       last = by tab.published (ap (λ s. published_on s c) kept.shows ∙ ap (λ o. option_and_then (λ (k : Canvas). k.published) o) canvas)
           current.published;
       inputs = current.present;
+      named = kept.named c tab there;
     }
   where
     by : (o : Option PublishedJob) → published_on (present h) c ≡ option_map taken_in o → IfSome o (λ last. IsWhole last.row)

@@ -1,5 +1,6 @@
 -- Lemmas on the desk.
 pub mod BasisLemmas
+pub mod NamedLemmas
 pub mod SeenLemmas
 pub mod RevisedLemmas
 pub mod KeepingLemmas

@@ -12,6 +12,7 @@ use Rattle.cv_event.specs.States.{Job, new_canvas}
 use Rattle.cv_tables.specs.Rows.{Row, row_in}
 use Rattle.cv_tables.specs.Tabs.{Tab, canvas_of, new_tab}
 use Rattle.cv_desk.specs.Desks.{IsCurrent, IsDesk}
+use Rattle.cv_desk.proofs.NamedLemmas.{named_opened}
 
 -- the canvases of an opening are those that it was given
 pub specs_back : (specs : List CanvasSpec) → map (λ (tab : Tab). tab.spec) (map new_tab specs) ≡ specs
@@ -72,6 +73,7 @@ opened_at store specs spare kept first =
       shows = λ i. record { project = project_of store; accepted = none i; canvases = tabs_seen specs i; jobs = jobs };
       holds = record { opened = omega (arith, first); caches = new_current store specs; slots = tt; shown = tt; room = omega arith };
       revised = record { store = behind_none store kept first; jobs = λ j row there. absurd (none_there j row there) };
+      named = named_opened specs;
     }
 
 opened_empty : (store : StoreParts) (specs : List CanvasSpec) (tabs : List Tab) (rows : List Row) (journal : List Entry) (spare : ℕ)

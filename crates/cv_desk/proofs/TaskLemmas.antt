@@ -33,6 +33,7 @@ use Rattle.cv_tables.specs.Tabs.{Tab, Tables, canvas_of, cached_of, cache_of, ta
 use Rattle.cv_desk.specs.Desks.{History, state, AreFresh, IsCurrent, IsWhole, Holds, IsDesk, Notes, KeepJobs}
 use Rattle.cv_desk.proofs.BasisLemmas.{jobs_stand_kept, jobs_composed_kept}
 use Rattle.cv_desk.proofs.KeepingLemmas.{noted, rows_change, stands_whole, owed_in, slot_of, slot_in_state, missed_change, stands_fresh, stand_holds}
+use Rattle.cv_desk.proofs.NamedLemmas.{named_one}
 use Rattle.cv_desk.proofs.PaintedLemmas.{IsPainted, painted, slot_fresh, painted_present, stored_kept, served_kept, served_painting}
 use Rattle.cv_desk.proofs.PaintedLemmas.{found_input, found_any, first_is, layers_apart}
 use Rattle.cv_desk.proofs.SeenLemmas.{jobs_stand, jobs_composed, job_seen, canvases_served, canvases_stored}
@@ -235,6 +236,7 @@ stored_noted h who j at left p tabs rows journal r x kept there is was paints fa
     noted h (act.Deliver j at Stored) who left (record t { tabs = tabs; rows = rows }) journal kept longer allowed
     (stored_seen h who j at p tabs rows r x there is own taken made) holds
     (subst (KeepJobs t.rows) (sym made) (jobs_stand_kept at Ready j t.rows)) refl refl
+    (named_one t.rows (tab_stored p) (λ tab. refl) r.canvas t.tabs tabs taken kept.named)
 
 -- ---- a look
 
@@ -314,6 +316,7 @@ hit_noted h who j at left tabs rows journal r x kept due there is yet hit taken 
     noted h (act.Look j at true) who left (record t { tabs = tabs; rows = rows }) journal kept longer (due, sym hit)
     (served_seen h who j at tabs rows r x there is taken made) holds
     (subst (KeepJobs t.rows) (sym made) (jobs_stand_kept at Ready j t.rows)) refl refl
+    (named_one t.rows (tab_served x.layer) (λ tab. refl) r.canvas t.tabs tabs taken kept.named)
 
 pub miss_noted : (h : History) (who j at left : ℕ) (rows : List Row) (journal : List Entry) (r : Row) (x : Slot) → IsDesk h
     → task (state h) ≡ Some (Look j at) → row_in h.tables.rows j ≡ Some r → slice_get r.slots at ≡ Some x
@@ -334,7 +337,7 @@ miss_noted h who j at left rows journal r x kept due there is yet missed made lo
     let seen : did (state h) who (act.Look j at false) ≡ state_of (record t { rows = rows }) =
     ap (λ l. record (state h) { jobs = l }) (sym (jobs_stand at (Missed who) t.rows j) ∙ ap (map job_of) (sym made)) in
     noted h (act.Look j at false) who left (record t { rows = rows }) journal kept longer (due, sym missed) seen holds
-    (subst (KeepJobs t.rows) (sym made) (jobs_stand_kept at (Missed who) j t.rows)) refl refl
+    (subst (KeepJobs t.rows) (sym made) (jobs_stand_kept at (Missed who) j t.rows)) refl refl kept.named
 
 -- ---- what a look hits
 
@@ -510,7 +513,7 @@ compose_noted h who j left rows journal r kept due there made longer less room =
     let seen : did (state h) who (act.Compose j) ≡ state_of (record t { rows = rows }) =
     ap (λ l. record (state h) { jobs = l }) (sym (jobs_composed who t.rows j) ∙ ap (map job_of) (sym made)) in
     noted h (act.Compose j) who left (record t { rows = rows }) journal kept longer due seen holds
-    (subst (KeepJobs t.rows) (sym made) (jobs_composed_kept who j t.rows)) refl refl
+    (subst (KeepJobs t.rows) (sym made) (jobs_composed_kept who j t.rows)) refl refl kept.named
 
 -- ---- a delivery
 

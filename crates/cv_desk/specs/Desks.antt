@@ -2,7 +2,8 @@
 --
 -- Source: in outline the developer documentation of QGIS (`QgsMapRendererParallelJob`, `QgsMapRendererCache`). All
 -- rules are this project's own.
-use Rattle.std.specs.Prelude.{◌≡◌, ◌≤◌, ◌++◌, ◌∷◌, [], ℕ, Bool, false, nat_eq, List, map, take, length, Some, IfSome}
+use Rattle.std.specs.Prelude.{◌≡◌, ◌≤◌, ◌++◌, ◌∷◌, [], ℕ, Bool, false, nat_eq, List, map, take, length, slice_get}
+use Rattle.std.specs.Prelude.{Some, IfSome, IsSomeAnd}
 use Rattle.std.specs.List.{AllByRecursion, IsDistinct, before_first}
 use Rattle.std.specs.Option.{option_map_or}
 use Rattle.cv_model.specs.Layers.{Opening, Project, slots}
@@ -18,7 +19,7 @@ use Rattle.cv_event.specs.States.{State, did, replay}
 use Rattle.cv_event.specs.Histories.{edits, start_of}
 use Rattle.cv_event.specs.Legality.{Allows, IsLegal}
 use Rattle.cv_tables.specs.Rows.{Row, row_in, input_of, owed, slot_layer, layer_id, WhileLive}
-use Rattle.cv_tables.specs.Tabs.{Tab, Tables, state_of}
+use Rattle.cv_tables.specs.Tabs.{Tab, PublishedJob, Tables, state_of}
 
 -- a desk: its opening, the entries of its journal, how many more have a place set aside, and its tables
 pub record History : Type 0 where
@@ -78,15 +79,6 @@ pub record IsRevised (opened : Project) (journal : List Entry) (t : Tables) : Ty
   pub jobs : (j : ℕ) (row : Row) → row_in t.rows j ≡ Some row
       → IsBehind opened (edits (before_start j journal)) row.store
 
--- a desk's journal is legal, its tables are those of the state after it, and revisions are those of its edits
-pub record IsDesk (h : History) : Type 0 where
-  pub legal : IsLegal h.opening h.journal
-  pub shows : replay h.opening h.journal ≡ state h
-  pub holds : Holds h.tables h.spare
-  pub revised : IsRevised h.opening.project h.journal h.tables
-
--- ---- what a call does to a desk
-
 -- what of a job never changes: its canvas, its store, its view, and the layers of its slots
 pub record Basis : Type 0 where
   pub canvas : ℕ
@@ -96,6 +88,28 @@ pub record Basis : Type 0 where
 
 abbrev pub basis_of : Row → Basis
 basis_of row = record { canvas = row.canvas; store = row.store; view = row.view; layers = map slot_layer row.slots }
+
+-- what a canvas has published is of the job of that number, which is there and of this canvas, in all that never
+-- changes
+abbrev pub IsNamed : List Row → ℕ → PublishedJob → Type 0
+IsNamed rows c last =
+    (last.row.canvas ≡ c) × IsSomeAnd (row_in rows last.job) (λ row. basis_of row ≡ basis_of last.row)
+
+-- and so is what each canvas has published
+abbrev pub AreNamed : List Row → List Tab → Type 0
+AreNamed rows tabs =
+    (c : ℕ) (tab : Tab) → slice_get tabs c ≡ Some tab → IfSome tab.published (IsNamed rows c)
+
+-- a desk's journal is legal, its tables are those of the state after it, revisions are those of its edits, and what
+-- is published is of the jobs whose numbers it has
+pub record IsDesk (h : History) : Type 0 where
+  pub legal : IsLegal h.opening h.journal
+  pub shows : replay h.opening h.journal ≡ state h
+  pub holds : Holds h.tables h.spare
+  pub revised : IsRevised h.opening.project h.journal h.tables
+  pub named : AreNamed h.tables.rows h.tables.tabs
+
+-- ---- what a call does to a desk
 
 -- the jobs that were there are there, under their numbers
 abbrev pub KeepJobs : List Row → List Row → Type 0

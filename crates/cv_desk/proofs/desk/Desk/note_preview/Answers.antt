@@ -24,4 +24,4 @@ invariant_of-self c =
     let allowed = subst (λ n. Allows (state n) c.args.who (act.Preview c.args.job c.args.ready)) (sym c.self.view_is) c.requires.job in
     (noted h (act.Preview c.args.job c.args.ready) c.args.who c.push.new.self.spare h.tables c.push.new.self.entries c.self.invariant
     c.push.ensures.entries allowed refl (same_holds h.tables h.spare c.push.new.self.spare c.push.ensures.spare room c.self.invariant.holds)
-    (jobs_same h.tables.rows) refl refl).0
+    (jobs_same h.tables.rows) refl refl c.self.invariant.named).0

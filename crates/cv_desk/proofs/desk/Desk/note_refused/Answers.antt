@@ -28,4 +28,4 @@ invariant_of-self c =
     let allowed : Allows (state h) c.args.who a = sym c.in-Some.is ∙ c.told.ensures ∙ sym told in
     (noted h a c.args.who c.push.new.self.spare h.tables c.push.new.self.entries c.self.invariant
     c.push.ensures.entries allowed refl (same_holds h.tables h.spare c.push.new.self.spare c.push.ensures.spare room c.self.invariant.holds)
-    (jobs_same h.tables.rows) refl refl).0
+    (jobs_same h.tables.rows) refl refl c.self.invariant.named).0
