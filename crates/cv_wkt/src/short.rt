@@ -129,8 +129,8 @@ fn unsigned(text: &[u8]) -> Option<Size>
     })
 }
 
-/// The same, perhaps behind a minus.
-#[inline]
+/// The same, perhaps behind a minus. It goes into its callers, so that its three parts stay in registers.
+#[inline(always)]
 pub fn coordinate(text: &[u8]) -> Option<Spelt>
     ensures { IfSome result (λ s. IsSpelt text.now s.millionths s.len) }
 {
