@@ -200,7 +200,6 @@ fn short_value(bytes: &[u8]) -> Option<i64>
 }
 
 /// The kind of a byte that is a token by itself.
-#[tactic(auto, unfolding(crate::specs::Kind::kind_of, crate::specs::Kind::word_kind, cv_number::specs::Reader::decimal_of))]
 fn sign_kind(byte: u8) -> Option<Kind>
     ensures kind { IfSome result (λ kind. kind ≡ kind_of (byte ∷ [])) }
     ensures range { IfSome result IsKindInRange }
