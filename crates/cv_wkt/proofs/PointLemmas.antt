@@ -21,7 +21,7 @@ use Rattle.cv_wkt.specs.Text.{len_by, front_len}
 use Rattle.cv_wkt.specs.Pieces.{PieceLists}
 use Rattle.cv_wkt.specs.Reader.{State, Stepped, with_x, with_y, stepped}
 use Rattle.cv_wkt.specs.Refusals.{limit_of, taken}
-use Rattle.cv_wkt.specs.Short.{IsSpelt, StandsAt, IsPair, IsPath, IsAtPoint, with_pair, answer_from}
+use Rattle.cv_wkt.specs.Short.{IsSpelt, StandsAt, IsPair, IsLast, IsPath, IsAtPoint, with_pair, answer_from}
 use Rattle.cv_wkt.specs.Short.{PointsAlong}
 use Rattle.cv_wkt.proofs.StepLemmas.{made}
 use Rattle.cv_wkt.proofs.ShortLemmas.{both}
@@ -186,6 +186,43 @@ points_more text start at len old s x y stands few pair along =
           ∙ subst (λ p. answer_from text at (record s { now = p })
           ≡ answer_from text (at + len) (with_pair x y (record s { now = p }))) (sym stands.now)
           (pair_passed text at len s.frames s.x x y s.vertices s.parts stands.path few pair);
+    }
+
+-- the last point leads to the state before the `)` behind it
+last_passed : (text : List ℕ) (at len : ℕ) (fs : List Frame) (x0 x y : ℤ) (v : ℕ) (a : PieceLists)
+    → v < 1000000 → IsLast (drop at text) x y len
+    → answer_from text at (before fs x0 v a)
+    ≡ answer_from text (at + len) (with_y y (with_x x (before fs x0 v a)))
+last_passed text at len fs x0 x y v a few last =
+    let n = last.x_len in
+    let m = last.y_len in
+    let s = before fs x0 v a in
+    let moved : drop (n + 1) (drop at text) ≡ drop (at + n + 1) text =
+    drop-drop (n + 1) at text ∙ ap (λ k. drop k text) (omega arith) in
+    let is = last.len_is in
+    coordinate_passed text at n 32 x s (with_x x s) last.x_is last.space refl (λ d. x_taken s x d at refl)
+    ∙ space_passed text (at + n) (with_x x s) (stands_behind text at n 32 last.space)
+    ∙ coordinate_passed text (at + n + 1) m 41 y (with_x x s) (with_y y (with_x x s))
+    (subst (λ bs. IsSpelt bs y m) moved last.y_is) (subst (λ bs. StandsAt bs m 41) moved last.close) refl
+    (λ d. y_taken s x y d (at + n + 1) few)
+    ∙ ap (λ k. answer_from text k (with_y y (with_x x s))) (omega (arith, is))
+
+-- the points so far, and the last
+pub points_last : (text : List ℕ) (start at len : ℕ) (old s : State) (x y : ℤ) → IsAtPoint s
+    → s.vertices < 1000000 → IsLast (drop at text) x y len → PointsAlong text start old at s
+    → PointsAlong text start old (at + len) (with_y y (with_x x s))
+points_last text start at len old s x y stands few last along =
+    let n = last.x_len in
+    let is = last.len_is in
+    let inside = last.close.within in
+    let further = along.further in
+    record {
+      further = omega arith;
+      within = omega (arith, length-drop at text, length-drop (n + 1) (drop at text));
+      same = along.same
+          ∙ subst (λ p. answer_from text at (record s { now = p })
+          ≡ answer_from text (at + len) (with_y y (with_x x (record s { now = p })))) (sym stands.now)
+          (last_passed text at len s.frames s.x x y s.vertices s.parts few last);
     }
 
 -- where none was read, the way is as long as before

@@ -59,6 +59,16 @@ pub record IsPair (bytes : List ℕ) (x y : ℤ) (len : ℕ) : Type 0 where
   pub comma : StandsAt (drop (x_len + 1) bytes) y_len 44
   pub len_is : len ≡ x_len + 1 + y_len + 1
 
+-- so many bytes at the front are an x, a space and a y, and `)` stands behind
+pub record IsLast (bytes : List ℕ) (x y : ℤ) (len : ℕ) : Type 0 where
+  pub x_len : ℕ
+  pub y_len : ℕ
+  pub x_is : IsSpelt bytes x x_len
+  pub space : StandsAt bytes x_len 32
+  pub y_is : IsSpelt (drop (x_len + 1) bytes) y y_len
+  pub close : StandsAt (drop (x_len + 1) bytes) y_len 41
+  pub len_is : len ≡ x_len + 1 + y_len
+
 -- ---- points
 
 -- the innermost list is one of a line's or a ring's points

@@ -1,6 +1,6 @@
 //! The kinds of tokens.
 
-ghost use Rattle.std.specs.Prelude.{◌≡◌, map, Some, IfSome};
+ghost use Rattle.std.specs.Prelude.{◌≡◌, ◌∷◌, [], map, Some, IfSome};
 ghost use Rattle.cv_wkt.specs.Kind.{is_sign, is_tag, tag_in, named, found_in, geometry_kind, keyword_kind};
 ghost use Rattle.cv_wkt.specs.Kind.{word_kind, kind_of, IsKindInRange};
 ghost use Rattle.std.specs.Char.{is_ascii_digit};
@@ -199,12 +199,32 @@ fn short_value(bytes: &[u8]) -> Option<i64>
     (spelt.len == bytes.len()).then_some(spelt.millionths)
 }
 
+/// The kind of a byte that is a token by itself.
+fn sign_kind(byte: u8) -> Option<Kind>
+    ensures kind { IfSome result (λ kind. kind ≡ kind_of (byte ∷ [])) }
+    ensures range { IfSome result IsKindInRange }
+{
+    match byte {
+        b'(' => Some(Kind::Open),
+        b')' => Some(Kind::Close),
+        b',' => Some(Kind::Comma),
+        b';' => Some(Kind::Semicolon),
+        b'=' => Some(Kind::Equals),
+        _ => None,
+    }
+}
+
 /// The kind of a token, given by its bytes.
 #[tactic(auto, unfolding(crate::specs::Kind::kind_of))]
 pub fn classify(bytes: &[u8]) -> Kind
     ensures kind { result ≡ kind_of bytes.now }
     ensures range { IsKindInRange result }
 {
+    if let [byte] = bytes
+        && let Some(kind) = sign_kind(*byte)
+    {
+        return kind;
+    }
     if let Some(value) = short_value(bytes) {
         return Kind::Number(Fixed::Value(value), is_digits(bytes));
     }

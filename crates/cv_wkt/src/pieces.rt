@@ -9,8 +9,8 @@ use std::alloc::Global;
 use std::marker::Model;
 use std::mem;
 
-/// How many points a path begins with room for: most rings and lines have more than four.
-const PATH: u64 = 16;
+/// How many points, of 16 bytes each, a path begins with room for: most rings and lines have more than four.
+const PATH: u64 = 12;
 
 /// How many items a list of another kind begins with room for: most geometries have one part, with one ring.
 const LIST: u64 = 1;

@@ -379,6 +379,17 @@ impl Reader {
         Ok(())
     }
 
+    /// Takes the last point of a line or a ring, up to the `)` behind it.
+    fn put_last(&mut self, alloc: Global, x: i64, y: i64) -> Result<(), NoMemory>
+        requires x_in { IsCoordinate x }
+        requires y_in { IsCoordinate y }
+        requires few { self.old.vertices < 1000000 }
+        ensures { OnOk result (self.new ≡ with_y y (with_x x self.old)) }
+    {
+        self.set_x(x);
+        self.set_y(alloc, y)
+    }
+
     /// Takes the points of a line or a ring from an offset on, as far as they are written as most are.
     /// Answers where it stopped.
     pub fn take_points(
@@ -397,6 +408,10 @@ impl Reader {
         while self.vertices < 1_000_000 {
             match first_pair(text.split_at(at).1) {
                 Some(pair) => {
+                    if pair.is_last {
+                        self.put_last(alloc, pair.x, pair.y)?;
+                        return Ok(at + pair.len);
+                    }
                     self.put_pair(alloc, pair.x, pair.y)?;
                     at += pair.len;
                 }

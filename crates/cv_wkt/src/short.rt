@@ -1,8 +1,8 @@
 //! The points of lines and rings as most are written: two short decimals, a space between them and a comma
-//! behind. Whatever else stands there is left to the way for all tokens.
+//! or `)` behind. Whatever else stands there is left to the way for all tokens.
 
-ghost use Rattle.std.specs.Prelude.{◌≡◌, ◌≤◌, ◌<◌, ◌+◌, ◌-◌, ◌*◌, ◌^◌, true, length, drop, IfSome};
-ghost use Rattle.cv_wkt.specs.Short.{AreDigits, IsSize, IsSpelt, StandsAt, IsPair};
+ghost use Rattle.std.specs.Prelude.{◌≡◌, ◌≤◌, ◌<◌, ◌+◌, ◌-◌, ◌*◌, ◌^◌, true, false, length, drop, IfSome};
+ghost use Rattle.cv_wkt.specs.Short.{AreDigits, IsSize, IsSpelt, StandsAt, IsPair, IsLast};
 
 /// The digits of a whole part that are read at most.
 const WHOLE: usize = 9;
@@ -31,12 +31,14 @@ pub struct Spelt {
     pub len: usize,
 }
 
-/// A point at the front of a text, and how many bytes it has with the comma behind it.
+/// A point at the front of a text, how many bytes it has with the comma behind it, and whether `)` stands
+/// there in place of a comma.
 #[derive(Clone, Copy)]
 pub struct Pair {
     pub x: i64,
     pub y: i64,
     pub len: usize,
+    pub is_last: bool,
 }
 
 /// The first digits of a text, at most so many, behind those of another number.
@@ -127,8 +129,8 @@ fn unsigned(text: &[u8]) -> Option<Size>
     })
 }
 
-/// The same, perhaps behind a minus.
-#[inline]
+/// The same, perhaps behind a minus. It goes into its callers, so that its three parts stay in registers.
+#[inline(always)]
 pub fn coordinate(text: &[u8]) -> Option<Spelt>
     ensures { IfSome result (λ s. IsSpelt text.now s.millionths s.len) }
 {
@@ -150,9 +152,11 @@ pub fn coordinate(text: &[u8]) -> Option<Spelt>
     }
 }
 
-/// The point at the front of a text, if it is two such coordinates, a space between them and a comma behind.
+/// The point at the front of a text, if it is two such coordinates, a space between them and a comma or `)`
+/// behind.
 pub fn first_pair(text: &[u8]) -> Option<Pair>
-    ensures { IfSome result (λ p. IsPair text.now p.x p.y p.len) }
+    ensures pair { IfSome result (λ p. p.is_last ≡ false → IsPair text.now p.x p.y p.len) }
+    ensures last { IfSome result (λ p. p.is_last ≡ true → IsLast text.now p.x p.y p.len) }
 {
     let x = coordinate(text)?;
     if !stands_at(text, x.len, b' ') {
@@ -160,12 +164,19 @@ pub fn first_pair(text: &[u8]) -> Option<Pair>
     }
     let behind = rest(text, x.len + 1);
     let y = coordinate(behind)?;
-    if !stands_at(behind, y.len, b',') {
-        return None;
+    let len = x.len + 1 + y.len;
+    if stands_at(behind, y.len, b',') {
+        return Some(Pair {
+            x: x.millionths,
+            y: y.millionths,
+            len: len + 1,
+            is_last: false,
+        });
     }
-    Some(Pair {
+    stands_at(behind, y.len, b')').then_some(Pair {
         x: x.millionths,
         y: y.millionths,
-        len: x.len + 1 + y.len + 1,
+        len,
+        is_last: true,
     })
 }
