@@ -126,8 +126,8 @@ fn is_upwards(a: Point, b: Point) -> bool
     a.y <= b.y
 }
 
-/// Puts the marks of an edge from its lower end up, as `put_edge`. Where its slope is known, that of the first
-/// row is mostly found from the column of its upper end, and the others follow it.
+/// Puts the marks of an edge from its lower end up, as `put_edge`. Where its slope is known, that of the
+/// first row is mostly found from the column of its upper end, and the others follow it.
 fn put_up<L: Ledger>(
     scratch: &mut Scratch,
     low: Point,

@@ -234,8 +234,8 @@ fn place_of(
     }
 }
 
-/// A quotient and what is left of a number then. Nothing is known of the quotient but that it is short: whoever
-/// calls it sees by what is left whether it is right.
+/// A quotient and what is left of a number then. Nothing is known of the quotient but that it is short:
+/// whoever calls it sees by what is left whether it is right.
 fn divided(number: i128, by: i128) -> (i64, i128)
     requires { unsigned_abs number ≤ 2 ^ 125 }
     ensures left { result.1 ≡ number -ℤ result.0 *ℤ by }
