@@ -16,7 +16,8 @@ use std::marker::Model;
 use std::num::NonZeroUsize;
 
 /// The images of a canvas's layers, seen as the list of the painted layers, the one that was used last first,
-/// and the capacity. No two of them are of one layer, and they are at most the capacity: `len` says so.
+/// and the capacity. No two of them are of one layer, and they are at most as many as the capacity, as `len`
+/// says.
 #[derive(Drop)]
 pub struct LayerCache {
     images: Option<Images>,

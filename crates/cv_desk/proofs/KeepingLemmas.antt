@@ -27,7 +27,7 @@ use Rattle.cv_tables.specs.Rows.{row_cancelled, new_row, missed_in, missed_weigh
 use Rattle.cv_tables.specs.Tabs.{Tab, Tables, canvas_of, tab_viewed, tab_publishes, state_of}
 use Rattle.cv_tables.proofs.TableLemmas.{owed_change, owed_more, lighter, weight_within}
 use Rattle.cv_tables.proofs.RowLemmas.{ended_live}
-use Rattle.cv_desk.specs.Desks.{History, state, IsFresh, AreFresh, IsWhole, IsCurrent, Holds, IsRevised, IsDesk, Notes, KeepJobs, AreNamed}
+use Rattle.cv_desk.specs.Desks.{History, state, IsFresh, AreFresh, IsWhole, IsCurrent, Holds, IsRevised, IsDesk, Notes, KeepJobs, AreOfTheirJobs}
 use Rattle.cv_desk.proofs.BasisLemmas.{jobs_ended_kept, jobs_stand_kept, jobs_started_kept, standing_layers}
 use Rattle.cv_desk.proofs.NamedLemmas.{named_kept, named_published}
 use Rattle.cv_desk.proofs.RevisedLemmas.{StoreGoes, revised_on, revised_started}
@@ -56,7 +56,7 @@ shows_on h journal who a u kept longer made =
 
 pub kept_more : (h : History) (journal : List Entry) (who : ℕ) (a : Act) (u : Tables) (left : ℕ) → IsDesk h
     → journal ≡ h.journal ++ record { caller = who; act = a } ∷ [] → Allows (state h) who a → did (state h) who a ≡ state_of u
-    → Holds u left → IsRevised h.opening.project journal u → AreNamed u.rows u.tabs
+    → Holds u left → IsRevised h.opening.project journal u → AreOfTheirJobs u.rows u.tabs
     → IsDesk (record { opening = h.opening; journal = journal; spare = left; tables = u })
 kept_more h journal who a u left kept longer allowed made holds revised named = record {
   legal = legal_on h journal who a kept longer allowed;
@@ -166,7 +166,7 @@ ended_noted h how a who j left rows journal kept live made longer room allowed d
 -- what comes of an entry with tables of the state behind it
 noted_with : (h : History) (a : Act) (who left : ℕ) (u : Tables) (journal : List Entry) → IsDesk h
     → journal ≡ h.journal ++ record { caller = who; act = a } ∷ [] → Allows (state h) who a → did (state h) who a ≡ state_of u
-    → Holds u left → KeepJobs h.tables.rows u.rows → IsRevised h.opening.project journal u → AreNamed h.tables.rows u.tabs
+    → Holds u left → KeepJobs h.tables.rows u.rows → IsRevised h.opening.project journal u → AreOfTheirJobs h.tables.rows u.tabs
     → let new : History = record { opening = h.opening; journal = journal; spare = left; tables = u } in
     IsDesk new × Notes h new who a
 noted_with h a who left u journal kept longer allowed seen holds jobs revised named = (
@@ -178,7 +178,7 @@ noted_with h a who left u journal kept longer allowed seen holds jobs revised na
 pub noted : (h : History) (a : Act) (who left : ℕ) (u : Tables) (journal : List Entry) → IsDesk h
     → journal ≡ h.journal ++ record { caller = who; act = a } ∷ [] → Allows (state h) who a → did (state h) who a ≡ state_of u
     → Holds u left → KeepJobs h.tables.rows u.rows → StoreGoes h.tables.store (accepted_edit a) u.store → start_of a ≡ None
-    → AreNamed h.tables.rows u.tabs
+    → AreOfTheirJobs h.tables.rows u.tabs
     → let new : History = record { opening = h.opening; journal = journal; spare = left; tables = u } in
     IsDesk new × Notes h new who a
 noted h a who left u journal kept longer allowed seen holds jobs goes starts named =

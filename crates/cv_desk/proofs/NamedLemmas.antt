@@ -6,13 +6,13 @@ use Rattle.cv_model.specs.declared.project.CanvasSpec.{CanvasSpec}
 use Rattle.cv_event.specs.States.{change_at}
 use Rattle.cv_tables.specs.Rows.{Row, row_in}
 use Rattle.cv_tables.specs.Tabs.{Tab, PublishedJob, new_tab, tab_publishes}
-use Rattle.cv_desk.specs.Desks.{basis_of, KeepJobs, IsNamed, AreNamed}
+use Rattle.cv_desk.specs.Desks.{basis_of, KeepJobs, IsOfItsJob, AreOfTheirJobs}
 use Rattle.cv_desk.proofs.BasisLemmas.{basis_stays}
 
 -- ---- jobs that go on
 
-last_kept : (old new : List Row) (c : ℕ) (o : Option PublishedJob) → KeepJobs old new → IfSome o (IsNamed old c)
-    → IfSome o (IsNamed new c)
+last_kept : (old new : List Row) (c : ℕ) (o : Option PublishedJob) → KeepJobs old new → IfSome o (IsOfItsJob old c)
+    → IfSome o (IsOfItsJob new c)
 last_kept old new c None kept h = tt
 last_kept old new c (Some last) kept h = (h.0, by (row_in old last.job) refl h.1)
   where
@@ -23,7 +23,7 @@ last_kept old new c (Some last) kept h = (h.0, by (row_in old last.job) refl h.1
         let q = basis_stays old new last.job r kept there in
         subst (λ (o : Option Row). IsSomeAnd o (λ (row : Row). basis_of row ≡ basis_of last.row)) (sym q.1) (q.2 ∙ h)
 
-pub named_kept : (old new : List Row) (tabs : List Tab) → KeepJobs old new → AreNamed old tabs → AreNamed new tabs
+pub named_kept : (old new : List Row) (tabs : List Tab) → KeepJobs old new → AreOfTheirJobs old tabs → AreOfTheirJobs new tabs
 named_kept old new tabs kept h = λ c tab is. last_kept old new c tab.published kept (h c tab is)
 
 -- ---- canvases that keep what they have published
@@ -31,8 +31,8 @@ named_kept old new tabs kept h = λ c tab is. last_kept old new c tab.published 
 abbrev published_of : Tab → Option PublishedJob
 published_of tab = tab.published
 
-named_same : (rows : List Row) (old new : List Tab) → map published_of new ≡ map published_of old → AreNamed rows old
-    → AreNamed rows new
+named_same : (rows : List Row) (old new : List Tab) → map published_of new ≡ map published_of old → AreOfTheirJobs rows old
+    → AreOfTheirJobs rows new
 named_same rows old new same h c tab is = by (slice_get old c) refl
   where
     seen : option_map published_of (slice_get old c) ≡ Some tab.published
@@ -40,14 +40,14 @@ named_same rows old new same h c tab is = by (slice_get old c) refl
         sym (slice_get-map published_of old c) ∙ ap (λ (l : List (Option PublishedJob)). slice_get l c) (sym same)
         ∙ slice_get-map published_of new c ∙ ap (option_map published_of) is
 
-    by : (o : Option Tab) → slice_get old c ≡ o → IfSome tab.published (IsNamed rows c)
+    by : (o : Option Tab) → slice_get old c ≡ o → IfSome tab.published (IsOfItsJob rows c)
     by None there =
         let none : None ≡ Some tab.published = sym (ap (option_map published_of) there) ∙ seen in
         absurd cc
     by (Some was) there =
         let some : Some was.published ≡ Some tab.published = sym (ap (option_map published_of) there) ∙ seen in
         let equal : was.published ≡ tab.published = cc in
-        subst (λ (o : Option PublishedJob). IfSome o (IsNamed rows c)) equal (h c was there)
+        subst (λ (o : Option PublishedJob). IfSome o (IsOfItsJob rows c)) equal (h c was there)
 
 -- one is changed
 one_same : (f : Tab → Tab) → ((tab : Tab) → published_of (f tab) ≡ published_of tab) → (at : ℕ) (tabs : List Tab)
@@ -57,7 +57,7 @@ one_same f same zero (tab ∷ tabs) = ap (λ o. o ∷ map published_of tabs) (sa
 one_same f same (suc at) (tab ∷ tabs) = ap (λ l. tab.published ∷ l) (one_same f same at tabs)
 
 pub named_one : (rows : List Row) (f : Tab → Tab) → ((tab : Tab) → (f tab).published ≡ tab.published) → (at : ℕ)
-    (tabs new : List Tab) → new ≡ change_at at f tabs → AreNamed rows tabs → AreNamed rows new
+    (tabs new : List Tab) → new ≡ change_at at f tabs → AreOfTheirJobs rows tabs → AreOfTheirJobs rows new
 named_one rows f same at tabs new made h =
     named_same rows tabs new (ap (map published_of) made ∙ one_same f same at tabs) h
 
@@ -68,7 +68,7 @@ all_same f same [] = refl
 all_same f same (tab ∷ tabs) = λ i. same tab i ∷ all_same f same tabs i
 
 pub named_all : (rows : List Row) (f : Tab → Tab) → ((tab : Tab) → (f tab).published ≡ tab.published)
-    → (tabs new : List Tab) → new ≡ map f tabs → AreNamed rows tabs → AreNamed rows new
+    → (tabs new : List Tab) → new ≡ map f tabs → AreOfTheirJobs rows tabs → AreOfTheirJobs rows new
 named_all rows f same tabs new made h =
     named_same rows tabs new (ap (map published_of) made ∙ all_same f same tabs) h
 
@@ -85,11 +85,11 @@ changed_at P f (x ∷ xs) (suc at) (suc c) tab is stays changes =
     changed_at P f xs at c tab is stays (λ was same made. changes was (ap suc same) made)
 
 pub named_published : (rows : List Row) (j : ℕ) (r : Row) (tabs new : List Tab) → row_in rows j ≡ Some r
-    → new ≡ change_at r.canvas (tab_publishes j r) tabs → AreNamed rows tabs → AreNamed rows new
+    → new ≡ change_at r.canvas (tab_publishes j r) tabs → AreOfTheirJobs rows tabs → AreOfTheirJobs rows new
 named_published rows j r tabs new there made h =
-    subst (AreNamed rows) (sym made)
-    (λ c tab is. changed_at (IfSome tab.published (IsNamed rows c)) (tab_publishes j r) tabs r.canvas c tab is (h c tab)
-    (λ was at same. subst (λ (t : Tab). IfSome t.published (IsNamed rows c)) same (at, own)))
+    subst (AreOfTheirJobs rows) (sym made)
+    (λ c tab is. changed_at (IfSome tab.published (IsOfItsJob rows c)) (tab_publishes j r) tabs r.canvas c tab is (h c tab)
+    (λ was at same. subst (λ (t : Tab). IfSome t.published (IsOfItsJob rows c)) same (at, own)))
   where
     own : IsSomeAnd (row_in rows j) (λ (row : Row). basis_of row ≡ basis_of r)
     own = subst (λ (o : Option Row). IsSomeAnd o (λ (row : Row). basis_of row ≡ basis_of r)) (sym there) refl
@@ -102,6 +102,6 @@ none_published [] (suc c) tab is = absurd cc
 none_published (spec ∷ specs) zero tab is = let same : new_tab spec ≡ tab = cc in sym (ap published_of same)
 none_published (spec ∷ specs) (suc c) tab is = none_published specs c tab is
 
-pub named_opened : (specs : List CanvasSpec) → AreNamed [] (map new_tab specs)
+pub named_opened : (specs : List CanvasSpec) → AreOfTheirJobs [] (map new_tab specs)
 named_opened specs c tab is =
-    subst (λ (o : Option PublishedJob). IfSome o (IsNamed [] c)) (sym (none_published specs c tab is)) tt
+    subst (λ (o : Option PublishedJob). IfSome o (IsOfItsJob [] c)) (sym (none_published specs c tab is)) tt

@@ -91,14 +91,14 @@ basis_of row = record { canvas = row.canvas; store = row.store; view = row.view;
 
 -- what a canvas has published is of the job of that number, which is there and of this canvas, in all that never
 -- changes
-abbrev pub IsNamed : List Row → ℕ → PublishedJob → Type 0
-IsNamed rows c last =
+abbrev pub IsOfItsJob : List Row → ℕ → PublishedJob → Type 0
+IsOfItsJob rows c last =
     (last.row.canvas ≡ c) × IsSomeAnd (row_in rows last.job) (λ row. basis_of row ≡ basis_of last.row)
 
 -- and so is what each canvas has published
-abbrev pub AreNamed : List Row → List Tab → Type 0
-AreNamed rows tabs =
-    (c : ℕ) (tab : Tab) → slice_get tabs c ≡ Some tab → IfSome tab.published (IsNamed rows c)
+abbrev pub AreOfTheirJobs : List Row → List Tab → Type 0
+AreOfTheirJobs rows tabs =
+    (c : ℕ) (tab : Tab) → slice_get tabs c ≡ Some tab → IfSome tab.published (IsOfItsJob rows c)
 
 -- a desk's journal is legal, its tables are those of the state after it, revisions are those of its edits, and what
 -- is published is of the jobs whose numbers it has
@@ -107,7 +107,7 @@ pub record IsDesk (h : History) : Type 0 where
   pub shows : replay h.opening h.journal ≡ state h
   pub holds : Holds h.tables h.spare
   pub revised : IsRevised h.opening.project h.journal h.tables
-  pub named : AreNamed h.tables.rows h.tables.tabs
+  pub named : AreOfTheirJobs h.tables.rows h.tables.tabs
 
 -- ---- what a call does to a desk
 

@@ -19,7 +19,7 @@ use Rattle.cv_event.specs.Histories.{edits, cached}
 use Rattle.cv_event.specs.ShownLaws.{published_on}
 use Rattle.cv_tables.specs.Rows.{Row, job_of, row_in, painting_of, compose_of, whole_of}
 use Rattle.cv_tables.specs.Tabs.{Tab, PublishedJob, cached_of, taken_in}
-use Rattle.cv_desk.specs.Desks.{History, state, IsPresent, IsNamed, before_start, Notes, Stays, IsDesk}
+use Rattle.cv_desk.specs.Desks.{History, state, IsPresent, IsOfItsJob, before_start, Notes, Stays, IsDesk}
 
 -- ---- a list of calls
 
@@ -89,7 +89,7 @@ pub record ShowsCanvas (h : History) (c : ℕ) (tab : Tab) : Type 0 where
   pub images : AllByRecursion (IsOf (present h).project) tab.paintings
   pub last : IfSome tab.published (ShowsLast (present h) c)
   pub inputs : AllByRecursion (IsPresent h.tables.store) tab.paintings
-  pub named : IfSome tab.published (IsNamed h.tables.rows c)
+  pub named : IfSome tab.published (IsOfItsJob h.tables.rows c)
 
 -- a slot of a job is painted of its layer's parts in the job's project, at the job's view
 abbrev pub IsSlotOf : Row → Slot → Type 0

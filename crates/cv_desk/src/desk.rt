@@ -30,9 +30,9 @@ use std::snapshot::Snapshot;
 
 /// A store, canvases and jobs with the journal of what was done to them.
 ///
-/// It keeps that the journal is legal, that the tables are those of the state after it, that each cached
-/// layer is of the present project, that what a canvas has published is of the job of that number, and that
-/// a place is set aside for each entry that is owed.
+/// It keeps that the journal is legal, that the tables are those of the state after it, that revisions are
+/// those of its edits, that each cached layer is of the present project, that what a canvas has published is
+/// of the job of that number, and that a place is set aside for each entry that is owed.
 #[derive(Drop)]
 pub struct Desk {
     pub(crate) alloc: Global,

@@ -35,8 +35,8 @@ pub fn records(alloc: Global, bytes: &[u8], delimiter: Delimiter) -> Reader<&[u8
         .from_reader(alloc, bytes)
 }
 
-/// The next record as bytes, if there is one; it is counted by this number. It takes the place of a record
-/// that is of no more use, and its memory.
+/// The next record as bytes, if there is one; it is counted by this number. The memory is that of a record
+/// that is of no more use.
 fn next_bytes(
     reader: &mut Reader<&[u8]>,
     spent: ByteRecord,
@@ -57,8 +57,8 @@ fn next_bytes(
     }
 }
 
-/// The next record of texts, if there is a record; it is counted by this number. It takes the place of a
-/// record that is of no more use, and its memory.
+/// The next record of texts, if there is a record; it is counted by this number. The memory is that of a
+/// record that is of no more use.
 pub fn next_texts(
     reader: &mut Reader<&[u8]>,
     spent: ByteRecord,

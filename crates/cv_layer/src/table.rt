@@ -55,7 +55,7 @@ fn sum(a: u64, b: u64) -> Result<u64, NoMemory>
     a.checked_add(b).ok_or(AllocError)
 }
 
-/// Whether ids that ascend, or don't, and are less than a number, ascend with a further one.
+/// Whether ids that are less than `least` still ascend with one more behind them, if they did before.
 fn still_ascend(ascending: bool, least: u64, id: u32) -> bool
     ensures { result ≡ true → (ascending ≡ true) × (least ≤ id) }
 {

@@ -80,7 +80,8 @@ pub fn put_followed<L: Ledger>(
 }
 
 /// Puts the marks of an edge in some rows with those of their rows, of which pairs are given from row `top`
-/// on, up to the first row that has no place for one more; none where a number doesn't fit in 64 bits.
+/// on, up to the first row that has no place for one more; none where a row has no pair, or a number doesn't
+/// fit in 64 bits.
 fn put_in_rows<L: Ledger>(
     pairs: &mut [Pair],
     top: u32,

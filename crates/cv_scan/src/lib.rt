@@ -3,8 +3,9 @@
 //! Contract: the spans of a row are exactly the maximal runs of columns whose centres are inside, in
 //! ascending order; the runs of an area have exactly its pixels whose centres are inside, none on two. At
 //! most one step is counted for an edge and a row.
-//! Definitions: `Reaches`, `Runs`, `Marks`, `Planes`, `Held`, `Terms` and `Fills` here; `Spans` and `Runs` of
-//! `cv_geom`; `Polygons` and `Views` of `cv_model`. Laws: `edges_cross_the_first`, `runs_have_the_spans`.
+//! Definitions: `Reaches`, `Runs`, `Marks`, `Orders`, `Pairs`, `Planes`, `Held`, `Terms`, `Narrow`, `Blocks`
+//! and `Fills` here; `Spans` and `Runs` of `cv_geom`; `Polygons` and `Views` of `cv_model`. Laws:
+//! `edges_cross_the_first`, `runs_have_the_spans`.
 //! `spans`, `spans_in` and `fill_runs` take memory; no handle is needed.
 #![tactic(auto)]
 

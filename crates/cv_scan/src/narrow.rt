@@ -23,8 +23,8 @@ pub struct NarrowSlope {
     pub whole: i64,
 }
 
-/// A place and a slope in numbers of 64 bits, if they fit: some are that long only where pixels are large
-/// and edges long, as 2 ^ 63 over the side of a pixel, in doubled millionths, is how far up they may lead.
+/// A place and a slope in numbers of 64 bits, if they fit. They don't only where the edge leads up by 2 ^ 63
+/// over the side of a pixel or more, both in doubled millionths.
 pub fn narrowed(place: Place, slope: &Slope) -> Option<(NarrowPlace, NarrowSlope)>
     requires over { pos 0 ≤ℤ place.over }
     requires less { place.over <ℤ slope.now.whole }

@@ -1,4 +1,5 @@
-//! Where a long edge crosses the heights of rows, each found from the one above it without a search.
+//! Where an edge of several rows crosses their heights: the first crossing from the column of its upper end,
+//! each other one from the one above it, without a search.
 
 ghost use Rattle.std.specs.Prelude.{◌≡◌, ℕ, ◌≤◌, ◌<◌, ◌+◌, ◌^◌, IfSome, true, false, pos, negsuc, neg_ℤ};
 ghost use Rattle.std.specs.Prelude.{◌≤ℤ◌, ◌+ℤ◌, ◌-ℤ◌, ◌*ℤ◌, unsigned_abs};
@@ -204,8 +205,8 @@ pub fn following(
     Some((*slope, below(here, slope)))
 }
 
-/// The place of the crossing with the height of a row, from a column near it, as far as it is found at once:
-/// always where the column is the first one whose centre doesn't lie left of the line.
+/// The place of the crossing with the height of a row, from a column near it. A guess of how far it lies from
+/// that column is tried; where it is wrong, none is found.
 fn place_of(
     slope: &Slope,
     low: Point,
@@ -250,7 +251,7 @@ fn divided(number: i128, by: i128) -> (i64, i128)
     }
 }
 
-/// About how often a number goes into another, by a division of their first 32 bits.
+/// About how often the second of two numbers goes into the first, by a division of their first 32 bits.
 fn quotient_near(number: i64, by: i64) -> i64
     ensures { unsigned_abs result ≤ 2 ^ 32 }
 {
