@@ -6,6 +6,8 @@
 //!
 //! Each file is read as any delimited text with the column `wkt`, with all tests of the product's readers
 //! (`../text`). Of each feature the polygons are painted.
+use std::convert::TryFrom;
+use std::ops::{AddAssign, Range, SubAssign};
 use std::time::Instant;
 
 #[path = "../text/decimal.rs"]
@@ -67,10 +69,8 @@ struct Marks {
 impl Marks {
     fn put(&mut self, row: usize, column: u32) {
         let pair = &mut self.rows[row];
-        if pair[0] == 0 {
-            pair[0] = column + 1;
-        } else if pair[1] == 0 {
-            pair[1] = column + 1;
+        if pair[1] == 0 {
+            *pair = [column + 1, pair[0]];
         } else {
             self.list.push((row as u32, column));
         }
@@ -102,17 +102,39 @@ fn mark_edge(a: Point, b: Point, view: &View, marks: &mut Marks) {
         return;
     }
     marks.span = (marks.span.0.min(from), marks.span.1.max(end));
-    let (dx, dy) = (i128::from(high.0 - low.0), i128::from(high.1 - low.1));
+    let (dx, dy) = (high.0 - low.0, high.1 - low.1);
     let centre = view.first.1 - from as i64 * view.side;
-    let over = i128::from(low.0 - view.first.0) * dy + dx * i128::from(centre - low.1);
-    let whole = dy * i128::from(view.side);
-    let (mut column, mut rest) = ((over + whole - 1).div_euclid(whole), (over + whole - 1).rem_euclid(whole));
-    let step = -dx * i128::from(view.side);
-    let (columns, part) = (step.div_euclid(whole), step.rem_euclid(whole));
-    for row in from..end {
-        marks.put(row, column.clamp(0, view.width as i128) as u32);
-        column += columns;
-        rest += part;
+    let over = product(low.0 - view.first.0, dy) + product(dx, centre - low.1);
+    let (whole, step) = (product(dy, view.side), -product(dx, view.side));
+    match (i64::try_from(over + whole - 1), i64::try_from(whole), i64::try_from(step)) {
+        (Ok(over), Ok(whole), Ok(step)) => {
+            let start = (over.div_euclid(whole), over.rem_euclid(whole));
+            let way = (step.div_euclid(whole), step.rem_euclid(whole));
+            mark_rows(from..end, start, way, whole, view, marks);
+        }
+        _ => {
+            let over = over + whole - 1;
+            let start = (over.div_euclid(whole) as i64, over.rem_euclid(whole));
+            let way = (step.div_euclid(whole) as i64, step.rem_euclid(whole));
+            mark_rows(from..end, start, way, whole, view, marks);
+        }
+    }
+}
+
+/// The product of two numbers.
+fn product(a: i64, b: i64) -> i128 {
+    i128::from(a) * i128::from(b)
+}
+
+/// Marks a column in each row, which moves by so many columns and a part of one from row to row.
+fn mark_rows<N: Copy + PartialOrd + AddAssign + SubAssign>(
+    rows: Range<usize>, start: (i64, N), way: (i64, N), whole: N, view: &View, marks: &mut Marks,
+) {
+    let (mut column, mut rest) = start;
+    for row in rows {
+        marks.put(row, column.clamp(0, view.width as i64) as u32);
+        column += way.0;
+        rest += way.1;
         if rest >= whole {
             rest -= whole;
             column += 1;
