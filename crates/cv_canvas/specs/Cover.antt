@@ -1,4 +1,6 @@
 -- Which pixels of a raster are covered.
+--
+-- Source: this project's own.
 use Rattle.std.specs.Prelude.{ℕ, Bool, false}
 use Rattle.cv_model.specs.Rasters.{Raster}
 use Rattle.cv_canvas.specs.Canvas.{item_in}

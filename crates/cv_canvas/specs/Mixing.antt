@@ -1,4 +1,7 @@
 -- A colour over an opaque one: what source-over gives there, with one division by 255 a channel.
+--
+-- Source: W3C Compositing and Blending Level 1 (source-over over an opaque backdrop), in whole numbers; each
+-- division rounds to the nearest.
 use Rattle.std.specs.Prelude.{ℕ, ◌+◌, ◌-◌, ◌*◌, ◌==◌, Bool}
 use Rattle.cv_number.specs.Rounding.{rnd}
 use Rattle.cv_model.specs.declared.colour.Rgba.{Rgba}

@@ -1,4 +1,7 @@
 -- The pixels of a canvas that takes one opaque colour.
+--
+-- Source: this project's own; an opaque colour hides what lies below it, as source-over of W3C Compositing
+-- and Blending Level 1 has it.
 use Rattle.std.specs.Prelude.{ℕ, Bool, if◌then◌else◌}
 use Rattle.cv_model.specs.declared.colour.Rgba.{Rgba}
 use Rattle.cv_model.specs.Colours.{transparent}

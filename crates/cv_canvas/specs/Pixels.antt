@@ -1,4 +1,6 @@
 -- The pixels of a canvas that keeps each pixel.
+--
+-- Source: this project's own.
 use Rattle.std.specs.Prelude.{ℕ}
 use Rattle.cv_model.specs.declared.colour.Rgba.{Rgba}
 use Rattle.cv_model.specs.Colours.{transparent}

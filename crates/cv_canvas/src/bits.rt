@@ -10,7 +10,7 @@ use cv_model::NoMemory;
 use std::alloc::Global;
 use std::marker::Model;
 
-/// Bits, each set or not.
+/// Bits, each set or not, in places from 0 on. The bit in place `k` is bit `k % 64` of word `k / 64`.
 #[derive(Drop)]
 pub struct Bits {
     count: usize,
@@ -30,7 +30,7 @@ impl Model for Bits {
 }
 
 impl Bits {
-    /// So many bits, none of them set.
+    /// So many bits, none of them set. The one error is want of memory.
     pub fn new(alloc: Global, count: usize) -> Result<Bits, NoMemory>
         ensures length { IfOk result (λ made. length made ≡ count) }
         ensures clear { IfOk result (λ made. (k : ℕ) → get_or made k false ≡ false) }
@@ -39,7 +39,7 @@ impl Bits {
         Ok(Bits { count, words })
     }
 
-    /// Sets the bits from a place up to another one.
+    /// Sets the bits from a place up to and without another one; the others stay. Takes no memory.
     pub fn set(&mut self, from: usize, end: usize)
         requires order { from ≤ end }
         requires within { end ≤ length self.old }

@@ -16,22 +16,27 @@ pub const CLEAR: Rgba = Rgba {
     a: 0,
 };
 
-/// A raster of pixels on which runs of colours are laid, each over what lies there.
+/// A raster of pixels on which runs of colours are laid, each over what lies there. Columns count from the
+/// left, rows from the top, both from 0.
+///
+/// A call takes no memory and can't fail. Source: W3C Compositing and Blending Level 1, source-over, in whole
+/// numbers; colours aren't premultiplied.
 pub trait Canvas {
-    /// Its size in pixels, and the one colour that it takes, if it takes one alone.
+    /// Its size in pixels, which stays, and the one colour that it takes, if it takes one alone.
     ghost frame: { Self → CanvasFrame };
 
-    /// The pixel in a column and a row.
+    /// The pixel in a column and a row, in this order.
     ghost at: { Self → ℕ → ℕ → Rgba };
 
-    /// Lays a colour on the pixels of a run.
+    /// Lays a colour on the pixels of a run, over what lies there; the others stay. A run may be empty.
     fn lay(&mut self, run: Run, colour: Rgba)
         requires run { LiesOn (frame self.old) run }
         requires ink { IsInk (frame self.old).ink colour }
         ensures frame { frame self.new ≡ frame self.old }
         ensures laid { at self.new ≡ with_run colour (at self.old) run };
 
-    /// Puts the pixels of a row into a list in place of what it held.
+    /// Puts the pixels of a row, from left to right, into a list in place of what it held. Rows may be asked
+    /// for in any order, and more than once.
     fn row(&self, row: u32, into: &mut [Rgba])
         requires row { row < (frame self.now).height }
         requires length { length into.old ≡ (frame self.now).width }

@@ -11,8 +11,11 @@ use cv_model::{NoMemory, Rgba};
 use std::alloc::Global;
 use std::marker::Model;
 
-/// A canvas that takes one colour, and counts how often it lies on each pixel. From the 255th time on a
-/// colour over itself changes nothing, so that a count needs no more than a byte.
+/// A canvas that takes one colour, of any alpha, and counts how often it lies on each pixel. From the 255th
+/// time on a colour over itself changes nothing, so that a count needs no more than a byte.
+///
+/// The counts are kept row by row from the top. A row is coloured by a table of the colour laid never, once
+/// and so on, which is made by source-over when the canvas is.
 #[derive(Drop)]
 pub struct CountCanvas {
     width: u32,
@@ -42,7 +45,8 @@ impl Model for CountCanvas {
 impl CountCanvas {
     ghost use Rattle.cv_canvas.specs.Counts.{counted_in};
 
-    /// A canvas of this size on which nothing lies.
+    /// A canvas of so many pixels across and down on which nothing lies. It takes a byte for each pixel and
+    /// 1,024 for the table. The one error is want of memory.
     pub fn new(
         alloc: Global,
         width: u32,

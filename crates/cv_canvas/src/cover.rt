@@ -9,7 +9,8 @@ use cv_model::NoMemory;
 use std::alloc::Global;
 use std::marker::Model;
 
-/// Which pixels of a raster are covered.
+/// Which pixels of a raster are covered: a bit for each, row by row from the top. Columns count from the
+/// left, rows from the top, both from 0.
 #[derive(Drop)]
 pub struct Cover {
     width: u32,
@@ -33,7 +34,8 @@ impl Cover {
     ghost use Rattle.cv_geom.specs.Runs.{IsWithin};
     ghost use Rattle.cv_canvas.specs.Cover.{is_covered_in};
 
-    /// A raster of this size of which nothing is covered.
+    /// A raster of so many pixels across and down of which nothing is covered. It takes a bit for each pixel.
+    /// The one error is want of memory.
     pub fn new(alloc: Global, width: u32, height: u32) -> Result<Cover, NoMemory>
         ensures width { IfOk result (λ made. made.width ≡ width) }
         ensures height { IfOk result (λ made. made.height ≡ height) }
@@ -47,14 +49,14 @@ impl Cover {
         })
     }
 
-    /// How many pixels a row has.
+    /// How many pixels a row has, as it was made.
     pub fn width(&self) -> u32
         ensures { result ≡ self.now.width }
     {
         self.width
     }
 
-    /// Covers the pixels of a run.
+    /// Covers the pixels of a run, also those that are covered already; the others stay. A run may be empty.
     pub fn cover(&mut self, run: Run)
         requires { IsWithin self.old.width self.old.height run }
         ensures width { self.new.width ≡ self.old.width }

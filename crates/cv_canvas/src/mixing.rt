@@ -9,7 +9,11 @@ ghost use Rattle.cv_canvas.specs.Mixing.{byte_over, on_opaque, has_alpha};
 use crate::reciprocals::Reciprocals;
 use cv_model::Rgba;
 
-/// Lays a colour over each of these pixels. Takes no memory.
+/// Lays a colour over each of these pixels, in place. Channels and alpha go from 0 to 255, and aren't
+/// premultiplied. Takes no memory.
+///
+/// Source: W3C Compositing and Blending Level 1, source-over, in whole numbers; divisions round to the
+/// nearest, a half upwards.
 pub fn lay_on(pixels: &mut [Rgba], colour: Rgba)
     ensures { pixels.new ≡ map (over colour) pixels.old }
 {
@@ -100,7 +104,7 @@ fn byte_over(alpha: u8, source: u8, backdrop: u8) -> u8
     by_255(alpha * u16::from(source) + (255 - alpha) * u16::from(backdrop)) as u8
 }
 
-/// A number divided by 255, to the nearest.
+/// A number divided by 255, to the nearest; no quotient ends on a half, since 255 is odd.
 pub fn by_255(n: u16) -> u16
     requires { n ≤ 65025 }
     ensures value { result ≡ rnd n 255 }

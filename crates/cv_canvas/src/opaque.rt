@@ -13,7 +13,8 @@ use cv_model::{NoMemory, Rgba};
 use std::alloc::Global;
 use std::marker::Model;
 
-/// A canvas that takes one opaque colour, and keeps of each pixel whether the colour lies there.
+/// A canvas that takes one opaque colour, and keeps of each pixel whether the colour lies there: a bit for
+/// each, row by row from the top. How often it lies there changes nothing.
 #[derive(Drop)]
 pub struct OpaqueCanvas {
     colour: Rgba,
@@ -34,7 +35,8 @@ impl Model for OpaqueCanvas {
 impl OpaqueCanvas {
     ghost use Rattle.cv_canvas.specs.Opaque.{inked_in};
 
-    /// A canvas of this size on which nothing lies.
+    /// A canvas of so many pixels across and down on which nothing lies. It takes a bit for each pixel. The
+    /// one error is want of memory.
     pub fn new(
         alloc: Global,
         width: u32,

@@ -11,7 +11,7 @@ use cv_model::{NoMemory, Rgba};
 use std::alloc::Global;
 use std::marker::Model;
 
-/// A canvas that keeps each pixel, and takes any colours.
+/// A canvas that keeps each pixel, row by row from the top, and takes any colours.
 #[derive(Drop)]
 pub struct PixelCanvas {
     width: u32,
@@ -36,7 +36,8 @@ impl Model for PixelCanvas {
 impl PixelCanvas {
     ghost use Rattle.cv_canvas.specs.Pixels.{pixel_in};
 
-    /// A canvas of this size on which nothing lies.
+    /// A canvas of so many pixels across and down on which nothing lies. It takes four bytes for each pixel.
+    /// The one error is want of memory.
     pub fn new(alloc: Global, width: u32, height: u32) -> Result<PixelCanvas, NoMemory>
         ensures width { IfOk result (λ made. made.width ≡ width) }
         ensures height { IfOk result (λ made. made.height ≡ height) }

@@ -1,4 +1,6 @@
 -- What each call of a desk answers, by cases on the answer; the cases shut each other out.
+--
+-- Source: this project's own.
 use Rattle.std.specs.Prelude.{◌≡◌, ◌==◌, ◌&&◌, ◌≤◌, ℕ, suc, Bool, true, false, length, slice_get, Result, Ok, Err}
 use Rattle.std.specs.Prelude.{Some, None, IsSome, IsNone, IsSomeAnd}
 use Rattle.cv_model.specs.declared.edit.Edit.{Edit}

@@ -376,8 +376,9 @@ impl Desk {
         });
     }
 
-    /// Finishes a job, the picture of which this caller composed. A refusal hands the picture back, with the
-    /// job's end. Takes no memory.
+    /// Finishes a job, the picture of which this caller composed, as `Claim::Compose` handed it out, and
+    /// publishes that picture on the job's canvas. A refusal hands the picture back, with the job's end.
+    /// Takes no memory.
     pub fn finish(
         &mut self,
         who: u32,

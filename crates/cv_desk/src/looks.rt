@@ -14,8 +14,9 @@ use cv_compose::{ComposeInput, Composed};
 use cv_event::{Act, Entry};
 
 impl Desk {
-    /// What the picture of a job's ready slots is composed of. A refusal leaves the desk as it was; want of
-    /// memory may leave more places set aside.
+    /// What the picture of a job's ready slots is composed of, from the bottom; the slots that aren't ready
+    /// are left out. It is for a caller that shows a picture before the job is finished. A refusal leaves the
+    /// desk as it was; want of memory may leave more places set aside.
     pub fn preview(&mut self, who: u32, job: u32) -> Result<ComposeInput, PreviewError>
         ensures answer { PreviewAnswer self.old job result }
         ensures ok { OnOk result (OfJob (state self.old) job

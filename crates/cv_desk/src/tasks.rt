@@ -18,16 +18,17 @@ use cv_event::{Act, Entry, Fate, Task};
 use cv_layer::{NoMemory, PaintedLayer, Piece};
 use std::marker::Model;
 
-/// A task that was handed out.
+/// A task that was handed out. Jobs are numbered from 1 in the order of their starts, the slots of a job from
+/// 0, the bottom layer.
 #[derive(Drop)]
 pub enum Claim {
-    /// The slot of a job, which the cache served.
+    /// The cache served this slot, the second number, of this job, the first; nothing is left to do for it.
     Hit(u32, u32),
-    /// A slot to be painted.
+    /// A slot to be painted and then to be handed to `deliver`, by the caller that claimed it.
     Paint(Piece),
-    /// A job's picture to be composed of this.
+    /// This job's picture is to be composed of this and then to be handed to `finish`, by the same caller.
     Compose(u32, ComposeInput),
-    /// Nothing is to be done.
+    /// Nothing is to be done at present. Takes no memory.
     Nothing,
 }
 
@@ -67,8 +68,9 @@ impl Desk {
         Ok(Fate::Stored)
     }
 
-    /// Delivers the image of a slot that this caller's look missed. A refusal hands it back; only an image
-    /// that the cache takes can want memory.
+    /// Delivers the image of a slot that this caller's look missed, as `Claim::Paint` handed it out. Answers
+    /// what became of it: stored in the cache too, kept for the job alone, or dropped, where the job has an
+    /// end. A refusal hands the image back; only one that the cache takes can want memory.
     pub fn deliver(
         &mut self,
         who: u32,
@@ -219,7 +221,11 @@ impl Desk {
         }
     }
 
-    /// Hands out the task that is due: of the job of the least number that has one.
+    /// Hands out the task that is due, to the caller `who`: of the job of the least number that has one, a
+    /// slot before the composition, and of the slots the lowest that nobody has looked at.
+    ///
+    /// An error names the job of which a task got no memory; nothing is handed out then, and the job may be
+    /// failed or claimed again.
     pub fn claim(&mut self, who: u32) -> Result<Claim, ClaimError>
         ensures answer { ClaimAnswer self.old result }
         ensures entry { ClaimNotes self.old self.new who result }

@@ -1,4 +1,6 @@
 -- A desk, and what caller 0 holds of it.
+--
+-- Source: this project's own.
 use Rattle.std.specs.Prelude.{◌≡◌, ◌⊎◌, ℕ, List, Some, IsSomeAnd}
 use Rattle.cv_event.specs.declared.entry.Act.{Act}
 use Rattle.cv_event.specs.declared.slot.Slot.{Slot}

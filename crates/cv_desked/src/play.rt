@@ -98,6 +98,15 @@ pub const HALVED: View = View {
     h: 4,
 };
 
+/// One that is wider than the canvases.
+pub const WIDER: View = View {
+    lx2: 0,
+    ty2: 8_000_000,
+    u: 1_000_000,
+    w: 5,
+    h: 4,
+};
+
 /// The store of the two squares.
 pub fn two_store(alloc: Global) -> Result<Store, Fail> {
     opened_store(alloc, TWO, SQUARES)

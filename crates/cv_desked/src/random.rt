@@ -2,9 +2,10 @@
 //! picture beside the one of the painter that tests each centre.
 use crate::Table;
 use crate::fold::{Fold, FoldJob, Ground};
-use crate::play::{BESIDE, FIRST, HALVED, two, two_store};
+use crate::play::{BESIDE, FIRST, HALVED, WIDER, two, two_store};
 use cv_blend::merge;
 use cv_compose::{ComposeInput, Composed, compose};
+use cv_desk::{EndError, PreviewError, SaveError, SetViewError, StartError};
 use cv_layer::{PaintedLayer, Piece};
 use cv_model::{Blend, NoMemory, Picture, Rgb, View};
 use cv_outside::Never;
@@ -44,20 +45,53 @@ fn edit(
     Ok(right && refused == fold.refused())
 }
 
-/// Starts a job. Answers whether that was right, and the canvas's view too.
-fn start(table: &mut Table, fold: &Fold, who: u32, canvas: u32) -> bool {
-    let viewed = fold.shows(canvas, table.desk().view(canvas));
-    let started = table.start(who, canvas).is_ok();
-    viewed && started == fold.is_shown(canvas)
+/// Why no job is started on a canvas, by the fold. There are the canvases 0 and 1.
+fn start_error(fold: &Fold, canvas: u32) -> Option<StartError> {
+    if canvas > 1 {
+        return Some(StartError::UnknownCanvas);
+    }
+    if fold.is_shown(canvas) {
+        None
+    } else {
+        Some(StartError::NoView)
+    }
 }
 
-/// One of the three views.
+/// Starts a job. Answers whether that was right, and the canvas's view too.
+fn start(table: &mut Table, fold: &Fold, who: u32, canvas: u32) -> bool {
+    let view = table.desk().view(canvas);
+    let viewed = if canvas > 1 {
+        view.is_none()
+    } else {
+        fold.shows(canvas, view)
+    };
+    let number = fold.jobs().wrapping_add(1);
+    match table.start(who, canvas) {
+        Ok(job) => viewed && start_error(fold, canvas).is_none() && job == number,
+        Err(error) => viewed && start_error(fold, canvas) == Some(error),
+    }
+}
+
+/// One of the three views, or one of another size.
 fn view_of(at: u32) -> View {
     match at {
         0 => FIRST,
         1 => BESIDE,
-        _ => HALVED,
+        2 => HALVED,
+        _ => WIDER,
     }
+}
+
+/// Gives a canvas a view. Answers whether that was right.
+fn set_view(table: &mut Table, who: u32, canvas: u32, at: u32) -> bool {
+    let error = if canvas > 1 {
+        Some(SetViewError::UnknownCanvas)
+    } else if at > 2 {
+        Some(SetViewError::Size)
+    } else {
+        None
+    };
+    table.set_view(who, canvas, view_of(at)).err() == error
 }
 
 /// The image of a job's slot, where it is ready, by the painter that tests each centre.
@@ -134,11 +168,35 @@ fn is_of(alloc: Global, composed: &Composed, job: Option<&FoldJob>) -> Result<bo
     Ok(slots && is_picture(composed.picture(), job.ground(), &low, &high))
 }
 
-/// Whether a job is there and has no end.
-fn is_live(fold: &Fold, job: u32) -> bool {
-    match fold.job(job) {
-        Some(job) => job.ended().is_none(),
-        None => false,
+/// Why a job isn't ended, by the fold.
+fn end_error(fold: &Fold, job: u32) -> Option<EndError> {
+    let Some(job) = fold.job(job) else {
+        return Some(EndError::UnknownJob);
+    };
+    match job.ended() {
+        Some(how) => Some(EndError::Ended(how)),
+        None => None,
+    }
+}
+
+/// Why a job isn't shown, by the fold.
+fn preview_error(fold: &Fold, job: u32) -> Option<PreviewError> {
+    match end_error(fold, job) {
+        Some(EndError::UnknownJob) => Some(PreviewError::UnknownJob),
+        Some(EndError::Ended(how)) => Some(PreviewError::Ended(how)),
+        None => None,
+    }
+}
+
+/// Why a canvas has no picture, by the fold.
+fn save_error(fold: &Fold, canvas: u32) -> Option<SaveError> {
+    if canvas > 1 {
+        return Some(SaveError::UnknownCanvas);
+    }
+    if fold.published(canvas) == 0 {
+        Some(SaveError::Nothing)
+    } else {
+        None
     }
 }
 
@@ -159,13 +217,13 @@ fn preview(
     who: u32,
     job: u32,
 ) -> Result<bool, NoMemory> {
-    let live = is_live(fold, job);
+    let right = preview_error(fold, job);
     match table.preview(who, job) {
         Ok(input) => {
             let composed = compose(alloc, input)?;
-            Ok(live && is_of(alloc, &composed, fold.job(job))?)
+            Ok(right.is_none() && is_of(alloc, &composed, fold.job(job))?)
         }
-        Err(_) => Ok(!live),
+        Err(error) => Ok(right == Some(error)),
     }
 }
 
@@ -177,10 +235,13 @@ fn save(
     who: u32,
     canvas: u32,
 ) -> Result<bool, NoMemory> {
-    let job = fold.published(canvas);
+    let right = save_error(fold, canvas);
     match table.published(who, canvas) {
-        Ok(composed) => is_of(alloc, composed.value(), fold.job(job)),
-        Err(_) => Ok(job == 0),
+        Ok(composed) => {
+            let job = fold.job(fold.published(canvas));
+            Ok(right.is_none() && is_of(alloc, composed.value(), job)?)
+        }
+        Err(error) => Ok(right == Some(error)),
     }
 }
 
@@ -192,7 +253,7 @@ fn end(table: &mut Table, fold: &Fold, who: u32, job: u32, fails: bool) -> bool 
     } else {
         table.cancel(who, job)
     };
-    told && ended.is_ok() == is_live(fold, job)
+    told && ended.err() == end_error(fold, job)
 }
 
 /// A call of a caller. Answers whether it was answered rightly, as far as no entry tells it.
@@ -204,10 +265,13 @@ fn call(
     seed: &mut u32,
 ) -> Result<bool, NoMemory> {
     let who = next(seed, 3);
-    let canvas = next(seed, 2);
+    let canvas = match next(seed, 9) {
+        0 => 2,
+        at => at % 2,
+    };
     let job = fold.jobs().wrapping_add(next(seed, 3)).saturating_sub(1);
     match next(seed, 20) {
-        0 => return Ok(table.set_view(who, canvas, view_of(next(seed, 3))).is_ok()),
+        0 => return Ok(set_view(table, who, canvas, next(seed, 4))),
         1 | 2 => return edit(table, fold, script, who, next(seed, 11)),
         3 | 4 => return Ok(start(table, fold, who, canvas)),
         5 => return Ok(end(table, fold, who, job, next(seed, 3) == 0)),
@@ -254,7 +318,7 @@ fn random_calls_are_answered_as_by_the_fold(rt: HostRuntime) -> Result<(), Fail>
         assert_eq!(rt; right, 3000);
         let (hits, [stored, kept, dropped]) = fold.counts();
         assert_eq!(rt; (hits > 20, stored > 50), (capacity > 0, capacity > 0));
-        assert!(rt; kept > 20 && dropped > 20);
+        assert!(rt; kept > 20 && dropped > 10);
         assert!(rt; fold.published(0) > 50 && fold.published(1) > 50);
     }
     Ok(())

@@ -273,3 +273,13 @@ adds-first test area runs made added told =
       order = told.order area all;
       covered = λ i j is. told.covered i j ∙ added.covered i j is;
     }
+
+-- runs that were put behind others, and then joined or left as they were
+pub adds-united :
+    (test : ℕ → ℕ → Bool) (area : Area) (old now new : List Run) → Adds test area old now
+    → (new ≡ now) ⊎ Unites now new → Adds test area old new
+adds-united test area old now new added (inl same) = rw same added
+adds-united test area old now new added (inr told) = record {
+  within = λ all. told.within area (added.within all);
+  covered = λ i j is. told.covered i j ∙ added.covered i j is;
+}

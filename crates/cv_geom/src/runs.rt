@@ -1,12 +1,15 @@
 //! Runs of pixels: columns of rows, and lists of them that are joined.
 
-ghost use Rattle.std.specs.Prelude.{◌≡◌, ◌++◌, ◌∷◌, [], true, OnOk, OnErr, option_to_list};
+ghost use Rattle.std.specs.Prelude.{◌≡◌, ◌++◌, ◌∷◌, ◌⊎◌, [], true, OnOk, OnErr, option_to_list};
 ghost use Rattle.cv_geom.specs.Runs.{BeginsAt, FollowEach, Unites, united, in_row, RunsAreApart, RunsAreFew};
 
 use cv_model::{NoMemory, Span};
 use std::alloc::Global;
 use std::marker::Model;
 use std::mem::swap;
+
+/// How many runs are listed before they are joined for the first time.
+const FEW: usize = 4_096;
 
 /// The columns of a row of pixels from `from` up to and without `end`.
 #[derive(Clone, Copy, Debug, PartialEq, Eq)]
@@ -35,6 +38,7 @@ pub struct Area {
 pub struct Runs {
     runs: Vec<Run>,
     spare: Vec<Run>,
+    many: usize,
 }
 
 impl Model for Runs {
@@ -54,6 +58,7 @@ impl Runs {
         Runs {
             runs: Vec::new(alloc),
             spare: Vec::new(alloc),
+            many: FEW,
         }
     }
 
@@ -62,6 +67,7 @@ impl Runs {
         ensures { self.new ≡ [] }
     {
         self.runs.clear();
+        self.many = FEW;
     }
 
     /// Puts a run behind the others. A refusal changes nothing.
@@ -107,6 +113,21 @@ impl Runs {
         self.spare.clear();
         put_united(&self.runs, &mut self.spare)?;
         swap(&mut self.runs, &mut self.spare);
+        Ok(())
+    }
+
+    /// Unites the runs, if there are many: 4,096, or twice as many as this left before.
+    ///
+    /// Who calls it while putting runs so holds about twice as many as they have different pixels, or 4,096,
+    /// at most, however many are put. Where memory wants, what is held is open.
+    pub fn unite_if_many(&mut self) -> Result<(), NoMemory>
+        ensures { OnOk result ((self.new ≡ self.old) ⊎ Unites self.old self.new) }
+    {
+        if self.runs.len() < self.many {
+            return Ok(());
+        }
+        self.unite()?;
+        self.many = self.runs.len().saturating_mul(2).max(FEW);
         Ok(())
     }
 }

@@ -7,7 +7,8 @@ use Rattle.std.specs.Prelude.{if◌then◌else◌, ◌==◌, slice_get, nat_lt}
 use Rattle.std.specs.List.{list_any, AllByRecursion, IsDistinct, position_or_len}
 use Rattle.std.proofs.lemmas.Bool.{false≢true}
 use Rattle.std.proofs.lemmas.Bool.Decides.{nat_tests}
-use Rattle.std.proofs.lemmas.List.{get_or-drop, get_or-take, length-take, length-drop, append_assoc, set_split}
+use Rattle.std.proofs.lemmas.List.{take-map, length-set, get_or-drop, get_or-take, length-take, length-take-le, length-drop, append_assoc, set_split}
+use Rattle.std.proofs.lemmas.List.Edits.{length-insert, length-remove}
 use Rattle.std.proofs.lemmas.List.Sums.{fails_before_first}
 use Rattle.cv_chunks.specs.Parts.{IsRunFrom}
 use Rattle.std.proofs.lemmas.List.Elements.{All-head, All-tail, All-cons, All-append, All-take, All-drop}
@@ -192,8 +193,85 @@ pub insert_ascends : (fs : List Feature) (n : ℕ) (f : Feature) → Ascend (ids
     → IsBetween (ids_of fs) n f.id → Ascend (ids_of (insert fs n f))
 insert_ascends fs n f h between = rw (ids_insert fs n f) (ascend_insert (ids_of fs) n f.id h between)
 
-pub remove_ascends : (fs : List Feature) (n : ℕ) → Ascend (ids_of fs) → Ascend (ids_of (remove fs n))
-remove_ascends fs n h = rw (ids_remove fs n) (ascend_remove (ids_of fs) n h)
+-- ---- the first ids
+
+all_shorter : (P : ℕ → Type 0) (xs : List ℕ) (k m : ℕ) → k ≤ m → AllByRecursion P (take m xs)
+    → AllByRecursion P (take k xs)
+all_shorter P xs zero m h all = tt
+all_shorter P xs (suc k) zero h all = absurd (omega arith)
+all_shorter P [] (suc k) (suc m) h all = tt
+all_shorter P (x ∷ xs) (suc k) (suc m) h all = (all.0, all_shorter P xs k m (omega arith) all.1)
+
+ascend_shorter : (xs : List ℕ) (k m : ℕ) → k ≤ m → Ascend (take m xs) → Ascend (take k xs)
+ascend_shorter xs zero m h up = tt
+ascend_shorter xs (suc k) zero h up = absurd (omega arith)
+ascend_shorter [] (suc k) (suc m) h up = tt
+ascend_shorter (x ∷ xs) (suc k) (suc m) h up =
+    (all_shorter (λ z. x < z) xs k m (omega arith) up.0, ascend_shorter xs k m (omega arith) up.1)
+
+-- what is put in at a place or behind it leaves the numbers before it
+take_insert_before : (xs : List ℕ) (k n y : ℕ) → k ≤ n → n ≤ length xs → take k (insert xs n y) ≡ take k xs
+take_insert_before xs zero n y h within = refl
+take_insert_before xs (suc k) zero y h within = absurd (omega arith)
+take_insert_before [] (suc k) (suc n) y h within = absurd (omega arith)
+take_insert_before (x ∷ xs) (suc k) (suc n) y h within =
+    ap (λ l. x ∷ l) (take_insert_before xs k n y (omega arith) (omega arith))
+
+take_insert_within : (xs : List ℕ) (k n y : ℕ) → n ≤ k → k ≤ length xs
+    → take (suc k) (insert xs n y) ≡ insert (take k xs) n y
+take_insert_within xs k zero y h within = refl
+take_insert_within xs zero (suc n) y h within = absurd (omega arith)
+take_insert_within [] (suc k) (suc n) y h within = absurd (omega arith)
+take_insert_within (x ∷ xs) (suc k) (suc n) y h within =
+    ap (λ l. x ∷ l) (take_insert_within xs k n y (omega arith) (omega arith))
+
+take_remove_before : (xs : List ℕ) (k n : ℕ) → k ≤ n → take k (remove xs n) ≡ take k xs
+take_remove_before xs zero n h = refl
+take_remove_before xs (suc k) zero h = absurd (omega arith)
+take_remove_before [] (suc k) (suc n) h = refl
+take_remove_before (x ∷ xs) (suc k) (suc n) h = ap (λ l. x ∷ l) (take_remove_before xs k n (omega arith))
+
+take_remove_within : (xs : List ℕ) (k n : ℕ) → n ≤ k → take k (remove xs n) ≡ remove (take (suc k) xs) n
+take_remove_within [] zero zero h = refl
+take_remove_within [] (suc k) zero h = refl
+take_remove_within [] zero (suc n) h = absurd (omega arith)
+take_remove_within [] (suc k) (suc n) h = refl
+take_remove_within (x ∷ xs) k zero h = refl
+take_remove_within (x ∷ xs) zero (suc n) h = absurd (omega arith)
+take_remove_within (x ∷ xs) (suc k) (suc n) h = ap (λ l. x ∷ l) (take_remove_within xs k n (omega arith))
+
+-- a number put in behind the first
+pub first_before : (xs : List ℕ) (first n y : ℕ) → first ≤ n → n ≤ length xs → Ascend (take first xs)
+    → Ascend (take first (insert xs n y))
+first_before xs first n y h within up = subst Ascend (sym (take_insert_before xs first n y h within)) up
+
+-- among them in order
+pub first_more : (xs : List ℕ) (first n y : ℕ) → n ≤ first → first ≤ length xs → Ascend (take first xs)
+    → IsBetween (take first xs) n y → Ascend (take (first + 1) (insert xs n y))
+first_more xs first n y h within up between =
+    let more : first + 1 ≡ suc first = omega arith in
+    subst Ascend (sym (ap (λ k. take k (insert xs n y)) more ∙ take_insert_within xs first n y h within))
+    (ascend_insert (take first xs) n y up between)
+
+-- or out of order
+pub first_cut : (xs : List ℕ) (first n y : ℕ) → n ≤ first → n ≤ length xs → Ascend (take first xs)
+    → Ascend (take n (insert xs n y))
+first_cut xs first n y h within up =
+    first_before xs n n y (omega arith) within (ascend_shorter xs n first h up)
+
+-- the first without one of them, or without one behind them
+pub first_without : (xs : List ℕ) (first n less : ℕ) → (n < first → less + 1 ≡ first) → (first ≤ n → less ≡ first)
+    → Ascend (take first xs) → Ascend (take less (remove xs n))
+first_without xs first n less among behind up = dite (dec_le first n)
+    (λ h. subst Ascend (sym (ap (λ k. take k (remove xs n)) (behind h) ∙ take_remove_before xs first n h)) up)
+    (λ h.
+    let is : first ≡ suc less = let e = among (omega (arith, h)) in omega (arith, e) in
+    subst Ascend (sym (take_remove_within xs less n (omega (arith, h, is))))
+    (ascend_remove (take (suc less) xs) n (subst (λ k. Ascend (take k xs)) is up)))
+
+-- the ids of the first features
+pub first_ids : (fs : List Feature) (first : ℕ) → Ascend (take first (ids_of fs)) → Ascend (ids_of (take first fs))
+first_ids fs first up = subst Ascend (take-map (λ (f : Feature). f.id) first fs) up
 
 -- the feature at a place of a list whose features' ids are all above a number
 above_at : (fs : List Feature) (x k : ℕ) (d : Feature) → AllByRecursion (λ y. x < y) (ids_of fs) → k < length fs
@@ -263,7 +341,7 @@ part_of_total count fs n f h =
     rw (get_or_from_slice_get fs n f f h) at (get_or-le-sum_by count fs n f (slice_get_within fs n f h))
 
 -- a table whose feature at a place is another one of the same id and as many values
-pub table_set : (t : TableParts) (ascending : Bool) (vertices values n later : ℕ) (old new : Feature)
+pub table_set : (t : TableParts) (ascending vertices values n later : ℕ) (old new : Feature)
     → IsTable t ascending vertices values → slice_get t.features n ≡ Some old
     → (old.id ≡ new.id) × (length old.values ≡ length new.values)
     → later + feature_vertices old ≡ vertices + feature_vertices new
@@ -284,19 +362,21 @@ table_set t ascending vertices values n later old new h at same counts =
         whole = All-set (λ (f : Feature). length f.values ≡ length t.columns) fs n new
             (sym same.1 ∙ sym old_w ∙ was) h.table.whole;
       };
-      ascend = λ e. subst Ascend (sym ids) (h.ascend e);
+      within = let long = length-set fs n new in omega (arith, h.within, long);
+      ascend = subst (λ l. Ascend (take ascending l)) (sym ids) h.ascend;
       vertices_are = omega (arith, v, old_v, counts, h.vertices_are);
       values_are = omega (arith, w, old_w, same.1, h.values_are);
     }
 
 -- a table with a feature more
-pub table_insert : (t : TableParts) (ascending before : Bool) (vertices values n : ℕ) (f : Feature)
+pub table_insert : (t : TableParts) (ascending before vertices values n : ℕ) (f : Feature)
     → IsTable t before vertices values → list_any (is_feature f.id) t.features ≡ false
     → length f.values ≡ length t.columns
-    → (ascending ≡ true → Ascend (ids_of t.features) × IsBetween (ids_of t.features) n f.id)
+    → n ≤ length t.features → ascending ≤ length t.features + 1
+    → Ascend (take ascending (insert (ids_of t.features) n f.id))
     → IsTable (record t { features = (insert t.features n f) }) ascending (vertices + feature_vertices f)
     (values + length f.values)
-table_insert t ascending before vertices values n f h fresh even between =
+table_insert t ascending before vertices values n f h fresh even place within up =
     let fs = t.features in
     record {
       table = record {
@@ -306,17 +386,19 @@ table_insert t ascending before vertices values n f h fresh even between =
             (All-cons (λ (g : Feature). length g.values ≡ length t.columns) f (drop n fs) even
             (All-drop (λ (g : Feature). length g.values ≡ length t.columns) n fs h.table.whole));
       };
-      ascend = λ e. let known = between e in insert_ascends fs n f known.0 known.1;
+      within = let long = length-insert fs n f place in omega (arith, within, long);
+      ascend = subst (λ l. Ascend (take ascending l)) (sym (ids_insert fs n f)) up;
       vertices_are = ap (λ k. k + feature_vertices f) h.vertices_are ∙ sym (sum_by-insert feature_vertices fs n f);
       values_are = ap (λ k. k + length f.values) h.values_are ∙ sym (sum_by-insert feature_values fs n f);
     }
 
 -- a table with a feature less
-pub table_remove : (t : TableParts) (ascending : Bool) (vertices values n fewer less : ℕ) (f : Feature)
-    → IsTable t ascending vertices values → slice_get t.features n ≡ Some f
+pub table_remove : (t : TableParts) (ascending first vertices values n fewer less : ℕ) (f : Feature)
+    → IsTable t first vertices values → slice_get t.features n ≡ Some f
+    → (n < first → ascending + 1 ≡ first) → (first ≤ n → ascending ≡ first)
     → fewer + feature_vertices f ≡ vertices → less + length f.values ≡ values
     → IsTable (record t { features = (remove t.features n) }) ascending fewer less
-table_remove t ascending vertices values n fewer less f h at counts counts2 =
+table_remove t ascending first vertices values n fewer less f h at among behind counts counts2 =
     let fs = t.features in
     let within = slice_get_within fs n f at in
     let is = get_or_from_slice_get fs n f f at in
@@ -331,7 +413,10 @@ table_remove t ascending vertices values n fewer less f h at counts counts2 =
             (All-take (λ (g : Feature). length g.values ≡ length t.columns) n fs h.table.whole)
             (All-drop (λ (g : Feature). length g.values ≡ length t.columns) (suc n) fs h.table.whole);
       };
-      ascend = λ e. remove_ascends fs n (h.ascend e);
+      within = let long = length-remove fs n within in dite (dec_le first n)
+          (λ x. let e = behind x in omega (arith, e, x, within, long))
+          (λ x. let e = among (omega (arith, x)) in omega (arith, e, h.within, long));
+      ascend = subst (λ l. Ascend (take ascending l)) (sym (ids_remove fs n)) (first_without (ids_of fs) first n ascending among behind h.ascend);
       vertices_are = omega (arith, v, old_v, counts, h.vertices_are);
       values_are = omega (arith, w, old_w, counts2, h.values_are);
     }
@@ -342,7 +427,7 @@ pub same_found : (fs : List Feature) (n : ℕ) (a b : Feature) → slice_get fs 
 same_found fs n a b h g = sym (get_or_from_slice_get fs n b a g) ∙ get_or_from_slice_get fs n a a h
 
 -- a feature of a table has a value for each column
-pub even_at : (t : TableParts) (ascending : Bool) (vertices values n : ℕ) (f : Feature)
+pub even_at : (t : TableParts) (ascending vertices values n : ℕ) (f : Feature)
     → IsTable t ascending vertices values → slice_get t.features n ≡ Some f → length f.values ≡ length t.columns
 even_at t ascending vertices values n f h at =
     ap (λ (g : Feature). length g.values) (sym (get_or_from_slice_get t.features n f f at))
@@ -350,7 +435,7 @@ even_at t ascending vertices values n f h at =
     (slice_get_within t.features n f at) h.table.whole
 
 -- a change of a table's feature that has an id
-pub changed : (id : ℕ) (change : Feature → Feature) (t : TableParts) (ascending : Bool) (vertices values n : ℕ)
+pub changed : (id : ℕ) (change : Feature → Feature) (t : TableParts) (ascending vertices values n : ℕ)
     (old new : Feature) → IsTable t ascending vertices values → position (is_feature id) t.features ≡ Some n
     → slice_get t.features n ≡ Some old → new ≡ change old
     → change_feature id change t.features ≡ set t.features n new
@@ -359,7 +444,7 @@ changed id change t ascending vertices values n old new h place at is =
     ∙ ap (λ f. set t.features n f) (ap change (get_or_from_slice_get t.features n old old at) ∙ sym is)
 
 -- a table's features without the one that has an id
-pub removed : (id : ℕ) (t : TableParts) (ascending : Bool) (vertices values n : ℕ) (d : Feature)
+pub removed : (id : ℕ) (t : TableParts) (ascending vertices values n : ℕ) (d : Feature)
     → IsTable t ascending vertices values → position (is_feature id) t.features ≡ Some n
     → without_feature id t.features ≡ remove t.features n
 removed id t ascending vertices values n d h place =
@@ -390,6 +475,39 @@ position_none id (f ∷ fs) none =
     let test : nat_lt (length (f ∷ fs)) (length (f ∷ fs)) ≡ false = grind (arith, nat_tests) in
     ap (λ k. cond (nat_lt k (length (f ∷ fs))) (Some k) None) at
     ∙ ap (λ b. cond b (Some (length (f ∷ fs))) None) test
+
+-- no element of a list has an id where none is found
+pub none_at : {X : Type 0} (p : X → Bool) (fs : List X) (k : ℕ) (d : X) → position p fs ≡ None
+    → k < length fs → p (get_or fs k d) ≡ false
+none_at p fs k d none within = fails_before_first p fs k d (by (nat_lt (position_or_len p fs) (length fs))
+    refl none)
+  where
+    by : (b : Bool) → nat_lt (position_or_len p fs) (length fs) ≡ b
+        → cond b (Some (position_or_len p fs)) None ≡ None → k < position_or_len p fs
+    by true e h = absurd cc
+    by false e h = let over : length fs ≤ position_or_len p fs = grind (arith, nat_tests, e) in
+        omega (arith, within, over)
+
+-- what is found among the first features is found
+pub found_in_front : (id : ℕ) (fs : List Feature) (first n : ℕ) → first ≤ length fs
+    → position (is_feature id) (take first fs) ≡ Some n → position (is_feature id) fs ≡ Some n
+found_in_front id [] zero n within h = h
+found_in_front id [] (suc first) n within h = absurd (omega arith)
+found_in_front id (f ∷ fs) first n within h =
+    let known = position-Some (is_feature id) (take first (f ∷ fs)) n f h in
+    let long = length-take-le first (f ∷ fs) within in
+    position_at id (f ∷ fs) n (omega (arith, known.0, long, within))
+    (λ d. let here = position-Some (is_feature id) (take first (f ∷ fs)) n d h in
+    ap (is_feature id) (sym (get_or-take first (f ∷ fs) n d (omega (arith, known.0, long)))) ∙ here.1)
+    (λ k d l. let here = position-Some (is_feature id) (take first (f ∷ fs)) n d h in
+    ap (is_feature id) (sym (get_or-take first (f ∷ fs) k d (omega (arith, l, known.0, long)))) ∙ here.2 k l)
+
+-- and what isn't found among them is none of them
+pub none_in_front : (id : ℕ) (fs : List Feature) (first k : ℕ) (d : Feature) → first ≤ length fs
+    → position (is_feature id) (take first fs) ≡ None → k < first → is_feature id (get_or fs k d) ≡ false
+none_in_front id fs first k d within none before =
+    ap (is_feature id) (sym (get_or-take first fs k d before))
+    ∙ none_at (is_feature id) (take first fs) k d none (let long = length-take-le first fs within in omega (arith, before, long))
 
 -- ids before one place are less than a number, and those from another on aren't
 pub record IsNarrowed (fs : List Feature) (id low high : ℕ) : Type 0 where
@@ -477,18 +595,6 @@ run_within fs at run is =
     let cut = length-take (length run) (drop at fs) in
     let rest = length-drop at fs in
     grind (arith, long, cut, rest, is.some)
-
--- no element of a list has an id where none is found
-pub none_at : {X : Type 0} (p : X → Bool) (fs : List X) (k : ℕ) (d : X) → position p fs ≡ None
-    → k < length fs → p (get_or fs k d) ≡ false
-none_at p fs k d none within = fails_before_first p fs k d (by (nat_lt (position_or_len p fs) (length fs))
-    refl none)
-  where
-    by : (b : Bool) → nat_lt (position_or_len p fs) (length fs) ≡ b
-        → cond b (Some (position_or_len p fs)) None ≡ None → k < position_or_len p fs
-    by true e h = absurd cc
-    by false e h = let over : length fs ≤ position_or_len p fs = grind (arith, nat_tests, e) in
-        omega (arith, within, over)
 
 -- what a pass knows behind a run in which the id isn't
 pub passed_more : (id : ℕ) (fs : List Feature) (at : ℕ) (run : List Feature) → IsRunFrom fs at run

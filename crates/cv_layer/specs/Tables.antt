@@ -1,5 +1,5 @@
 -- What a text layer holds: the names of its columns, and its features.
-use Rattle.std.specs.Prelude.{◌≡◌, ℕ, ◌<◌, Bool, true, List, [], ◌∷◌, length, sum_by, take, drop}
+use Rattle.std.specs.Prelude.{◌≡◌, ℕ, ◌<◌, ◌≤◌, List, [], ◌∷◌, length, sum_by, take, drop}
 use Rattle.std.specs.List.{AllByRecursion}
 use Rattle.cv_model.specs.declared.feature.Feature.{Feature}
 use Rattle.cv_model.specs.Features.{IsFeatureTable, ids_of}
@@ -23,10 +23,11 @@ IsBetween ids at id = AllByRecursion (λ x. x < id) (take at ids) × AllByRecurs
 abbrev pub feature_values : Feature → ℕ
 feature_values f = length f.values
 
--- what a table keeps: the features' ids differ, each feature has a value for each column, the ids ascend
--- where it says so, and its counts of vertices and of values are those of all its features
-pub record IsTable (t : TableParts) (ascending : Bool) (vertices values : ℕ) : Type 0 where
+-- what a table keeps: the features' ids differ, each feature has a value for each column, as many of the first
+-- ids as it says ascend, and its counts of vertices and of values are those of all its features
+pub record IsTable (t : TableParts) (ascending vertices values : ℕ) : Type 0 where
   pub table : IsFeatureTable (record { columns = t.columns; features = t.features; notes = [] })
-  pub ascend : ascending ≡ true → Ascend (ids_of t.features)
+  pub within : ascending ≤ length t.features
+  pub ascend : Ascend (take ascending (ids_of t.features))
   pub vertices_are : vertices ≡ sum_by feature_vertices t.features
   pub values_are : values ≡ sum_by feature_values t.features

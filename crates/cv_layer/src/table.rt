@@ -1,7 +1,7 @@
 //! What a text layer holds.
 
 ghost use Rattle.std.specs.Prelude.{◌≡◌, ℕ, ◌+◌, ◌<◌, ◌≤◌, true, false, [], length, sum_by, IfOk};
-ghost use Rattle.std.specs.Prelude.{insert, slice_set, slice_get, slice_index_or, Some, position};
+ghost use Rattle.std.specs.Prelude.{insert, slice_set, slice_get, slice_index_or, Some, None, position, take};
 ghost use Rattle.std.specs.List.{list_any};
 ghost use Rattle.cv_model.specs.Edits.{feature_vertices, is_feature, change_feature, without_feature};
 ghost use Rattle.cv_model.specs.Features.{IsFeatureTable, ids_of};
@@ -23,7 +23,7 @@ pub struct Table {
     alloc: Global,
     columns: Shared<Values>,
     rows: Chunked<FeatureRow>,
-    ascending: bool,
+    ascending: u64,
     vertices: u64,
     values: u64,
 }
@@ -39,11 +39,11 @@ impl Model for Table {
         t.ascending t.vertices t.values };
 }
 
-/// Rows, whether their ids are known to ascend, and the counts of their vertices and of their values.
+/// Rows, how many of the first ids are known to ascend, and the counts of their vertices and of their values.
 #[derive(Drop)]
 struct Counted {
     rows: Chunked<FeatureRow>,
-    ascending: bool,
+    ascending: u64,
     vertices: u64,
     values: u64,
 }
@@ -66,7 +66,8 @@ fn still_ascend(ascending: bool, least: u64, id: u32) -> bool
 /// made, as its geometry is at hand then.
 fn rows_of(alloc: Global, features: Vec<Feature>) -> Result<Counted, NoMemory>
     ensures rows { IfOk result (λ made. made.rows ≡ features.items) }
-    ensures ascend { IfOk result (λ made. made.ascending ≡ true → Ascend (ids_of features.items)) }
+    ensures within { IfOk result (λ made. made.ascending ≤ length features.items) }
+    ensures ascend { IfOk result (λ made. Ascend (take made.ascending (ids_of features.items))) }
     ensures vertices { IfOk result (λ made. made.vertices ≡ sum_by feature_vertices features.items) }
     ensures values { IfOk result (λ made. made.values ≡ sum_by feature_values features.items) }
 {
@@ -84,21 +85,24 @@ fn rows_of(alloc: Global, features: Vec<Feature>) -> Result<Counted, NoMemory>
         values = sum(values, row.values().len() as u64)?;
         rows.put(row)?;
     }
+    let rows = rows.finish()?;
+    let ascending = if ascending { rows.len() } else { 0 };
     Ok(Counted {
-        rows: rows.finish()?,
+        rows,
         ascending,
         vertices,
         values,
     })
 }
 
-/// The place of the feature with an id, where the ids ascend.
-fn find_by_halves(rows: &Chunked<FeatureRow>, id: u32) -> Option<u64>
-    requires { Ascend (ids_of rows.now) }
-    ensures { result ≡ position (is_feature id) rows.now }
+/// The place of the feature with an id among the first, whose ids ascend.
+fn find_by_halves(rows: &Chunked<FeatureRow>, first: u64, id: u32) -> Option<u64>
+    requires within { first ≤ length rows.now }
+    requires ascend { Ascend (take first (ids_of rows.now)) }
+    ensures { result ≡ position (is_feature id) (take first rows.now) }
 {
     let mut low = 0;
-    let mut high = rows.len();
+    let mut high = first;
     while low < high {
         let middle = low + (high - low) / 2;
         if id_at(rows, middle) < id {
@@ -107,7 +111,7 @@ fn find_by_halves(rows: &Chunked<FeatureRow>, id: u32) -> Option<u64>
             high = middle;
         }
     }
-    if low == rows.len() {
+    if low == first {
         return None;
     }
     if id_at(rows, low) == id {
@@ -128,11 +132,13 @@ fn place_in(rows: &[FeatureRow], id: u32) -> Option<usize>
     )
 }
 
-/// The place of the feature with an id, by one pass over the rows.
-fn find_by_pass(rows: &Chunked<FeatureRow>, id: u32) -> Option<u64>
+/// The place of the feature with an id that the first features haven't, by one pass over the others.
+fn find_by_pass(rows: &Chunked<FeatureRow>, first: u64, id: u32) -> Option<u64>
+    requires within { first ≤ length rows.now }
+    requires none { position (is_feature id) (take first rows.now) ≡ None }
     ensures { result ≡ position (is_feature id) rows.now }
 {
-    let mut at = 0;
+    let mut at = first;
     while at < rows.len() {
         let run = rows.run_from(at);
         match place_in(run, id) {
@@ -166,29 +172,39 @@ fn is_above(rows: &Chunked<FeatureRow>, at: u64, id: u32) -> bool
     id_at(rows, at - 1) < id
 }
 
-/// Whether an id is less than that of the feature at a place.
-fn is_below(rows: &Chunked<FeatureRow>, at: u64, id: u32) -> bool
-    requires { at ≤ length rows.now }
-    ensures { result ≡ true → (d : Feature) → at < length rows.now
-        → id < (slice_index_or rows.now at d).id }
+/// Whether an id is less than that of the feature at a place, if that is one of the first.
+fn is_below(rows: &Chunked<FeatureRow>, first: u64, at: u64, id: u32) -> bool
+    requires place { at ≤ first }
+    requires within { first ≤ length rows.now }
+    ensures { result ≡ true → (d : Feature) → at < first → id < (slice_index_or rows.now at d).id }
 {
-    if at == rows.len() {
+    if at == first {
         return true;
     }
     id < id_at(rows, at)
 }
 
-/// Whether an id is greater than those of the features before a place, and less than those of the others.
-fn is_between(rows: &Chunked<FeatureRow>, at: u64, id: u32) -> bool
-    requires place { at ≤ length rows.now }
-    requires ascend { Ascend (ids_of rows.now) }
-    ensures { result ≡ true → IsBetween (ids_of rows.now) at id }
+/// Whether an id is greater than those of the features before a place, and less than those of the others
+/// among the first, whose ids ascend.
+fn is_between(rows: &Chunked<FeatureRow>, first: u64, at: u64, id: u32) -> bool
+    requires place { at ≤ first }
+    requires within { first ≤ length rows.now }
+    requires ascend { Ascend (take first (ids_of rows.now)) }
+    ensures { result ≡ true → IsBetween (take first (ids_of rows.now)) at id }
 {
     if is_above(rows, at, id) {
-        is_below(rows, at, id)
+        is_below(rows, first, at, id)
     } else {
         false
     }
+}
+
+/// How many of the first ids ascend where the one at a place is gone.
+fn ascending_without(first: u64, at: u64) -> u64
+    ensures less { at < first → result + 1 ≡ first }
+    ensures same { first ≤ at → result ≡ first }
+{
+    if at < first { first - 1 } else { first }
 }
 
 impl Table {
@@ -230,11 +246,11 @@ impl Table {
     }
 
     /// Whether the ids are known to ascend from feature to feature. They are where a list in this order was
-    /// read, and no feature was put in with an id that is out of order.
+    /// read, unless features from the first on that was put in with an id out of order are left.
     pub fn ids_ascend(&self) -> bool
         ensures { result ≡ true → Ascend (ids_of self.now.features) }
     {
-        self.ascending
+        self.ascending == self.rows.len()
     }
 
     /// How many vertices all geometries have together.
@@ -265,15 +281,14 @@ impl Table {
         })
     }
 
-    /// The place of the feature with an id. It is found by halves where the ids are known to ascend, else
-    /// by one pass over the rows.
+    /// The place of the feature with an id. It is found by halves among the first features, whose ids are
+    /// known to ascend, else by one pass over the others: those from the first on whose id is out of order.
     pub fn find(&self, id: u32) -> Option<u64>
         ensures { result ≡ position (is_feature id) self.now.features }
     {
-        if self.ascending {
-            find_by_halves(&self.rows, id)
-        } else {
-            find_by_pass(&self.rows, id)
+        match find_by_halves(&self.rows, self.ascending, id) {
+            Some(at) => Some(at),
+            None => find_by_pass(&self.rows, self.ascending, id),
         }
     }
 
@@ -281,7 +296,7 @@ impl Table {
     fn with_rows(
         &self,
         rows: Chunked<FeatureRow>,
-        ascending: bool,
+        ascending: u64,
         vertices: u64,
         values: u64,
     ) -> Result<Table, NoMemory>
@@ -300,16 +315,21 @@ impl Table {
         })
     }
 
-    /// Whether the ids are known to ascend, also with this one at a place.
-    fn ascends_with(&self, at: u64, id: u32) -> bool
+    /// How many of the first ids are known to ascend, with this one at a place. A number that 64 bits don't
+    /// hold is want of memory.
+    fn ascending_with(&self, at: u64, id: u32) -> Result<u64, NoMemory>
         requires { at ≤ length self.now.features }
-        ensures { result ≡ true → Ascend (ids_of self.now.features)
-            × IsBetween (ids_of self.now.features) at id }
+        ensures within { IfOk result (λ first. first ≤ length self.now.features + 1) }
+        ensures ascend { IfOk result
+            (λ first. Ascend (take first (insert (ids_of self.now.features) at id))) }
     {
-        if self.ascending {
-            is_between(&self.rows, at, id)
+        if at > self.ascending {
+            return Ok(self.ascending);
+        }
+        if is_between(&self.rows, self.ascending, at, id) {
+            sum(self.ascending, 1)
         } else {
-            false
+            Ok(at)
         }
     }
 
@@ -322,7 +342,7 @@ impl Table {
             (λ made. made ≡ record self.now { features = (insert self.now.features at feature) }) }
     {
         let row = FeatureRow::of(self.alloc, feature, &no_values(self.alloc)?)?;
-        let ascending = self.ascends_with(at, row.id());
+        let ascending = self.ascending_with(at, row.id())?;
         let vertices = sum(self.vertices, row.vertices()?)?;
         let values = sum(self.values, row.values().len() as u64)?;
         let mut rows = self.rows.share()?;
@@ -345,7 +365,8 @@ impl Table {
         let values = self.values - row.values().len() as u64;
         let mut rows = self.rows.share()?;
         rows.remove(at)?;
-        self.with_rows(rows, self.ascending, vertices, values)
+        let ascending = ascending_without(self.ascending, at);
+        self.with_rows(rows, ascending, vertices, values)
     }
 
     /// The table with another row, of the same id and as many values, at a place.

@@ -1,4 +1,6 @@
 -- The colours of a grid at the centres of pixels.
+--
+-- Source: this project's own.
 use Rattle.std.specs.Prelude.{ℕ, ◌≡◌, ◌*◌, ◌<◌, ◌≤◌, Option, option_and_then}
 use Rattle.std.specs.Option.{option_map_or}
 use Rattle.cv_model.specs.declared.colour.Rgba.{Rgba}

@@ -1,4 +1,6 @@
 -- What is seen of a canvas through a mask, and why a painting is given up.
+--
+-- Source: this project's own.
 use Rattle.std.specs.Prelude.{ℕ, ◌≡◌, ◌≤◌, ◌+◌, Bool, true, if◌then◌else◌, List, [], ◌∷◌, Option, Some, None}
 use Rattle.cv_outside.specs.Counts.{Rose}
 use Rattle.cv_model.specs.declared.colour.Rgba.{Rgba}

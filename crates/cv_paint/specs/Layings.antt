@@ -1,4 +1,6 @@
 -- Strokes laid on all pixels of a canvas at a view.
+--
+-- Source: this project's own; colours are laid by W3C Compositing and Blending Level 1, source-over.
 use Rattle.std.specs.Prelude.{ℕ, ◌≡◌, ◌<◌, List, Option, Some}
 use Rattle.cv_model.specs.declared.colour.Rgba.{Rgba}
 use Rattle.cv_model.specs.declared.symbol.Symbol.{Symbol}

@@ -1,4 +1,6 @@
 -- What a mask covers.
+--
+-- Source: this project's own.
 use Rattle.std.specs.Prelude.{ℕ, ◌≡◌, ◌<◌, Bool, true, ◌||◌, List, fold, Option}
 use Rattle.cv_model.specs.Positions.{Position}
 use Rattle.cv_model.specs.Views.{PixelGrid, centre_of}

@@ -185,7 +185,12 @@ fn put_rows<S: Stop>(
 /// The layer of a piece painted at its view, each feature tested at each pixel's centre: what `paint` gives,
 /// more slowly.
 ///
-/// The stop is asked before each row; after a yes nothing more is painted.
+/// It is there to be read and to be compared with, and each of its calls says what a definition says. The
+/// image has the view's pixels, row by row from the top.
+///
+/// The stop is asked before each row; after a yes nothing more is painted. Errors: `Stopped` at a yes,
+/// `NoMemory` where memory is wanting; the piece stays as it is at both. Source: this project's own rules;
+/// colours are laid by W3C Compositing and Blending Level 1, source-over.
 pub fn plain<S: Stop>(
     alloc: Global,
     piece: &Piece,

@@ -5,12 +5,12 @@ ghost use Rattle.cv_paint.specs.declared.error.PaintError.TheVariants.{NoMemory}
 
 use std::alloc::AllocError;
 
-/// Why a painting was given up.
+/// Why a painting was given up. What was painted until then is thrown away by the call itself.
 #[derive(Clone, Copy, Debug, PartialEq, Eq)]
 pub enum PaintError {
-    /// The stop said yes.
+    /// The stop said yes, once, and wasn't asked again.
     Stopped,
-    /// There was no memory.
+    /// There was no memory. The stop had said no yes until then.
     NoMemory,
 }
 

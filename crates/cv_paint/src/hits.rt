@@ -10,14 +10,14 @@ ghost use Rattle.cv_model.specs.Pictures.{is_covered, hits_ring, hits_line, hits
 use cv_geom::{inside, marked, near};
 use cv_model::{Geometry, Point, Point2, Polygon, Shape};
 
-/// Whether a position is inside some polygon.
+/// Whether a position, in doubled millionths, is inside some polygon.
 pub fn is_covered(geometry: &Geometry, p: Point2) -> bool
     ensures { result ≡ is_covered p geometry.now }
 {
     geometry.polygons().iter().any(|polygon| inside(polygon, p))
 }
 
-/// Whether the marker of radius `r` on some point covers a position.
+/// Whether the marker of radius `r`, in doubled millionths, on some point covers a position.
 pub fn is_marked(geometry: &Geometry, shape: Shape, r: i64, p: Point2) -> bool
     requires { IsRadius r }
     ensures { result ≡ list_any (is_marked shape r p) geometry.now.points }
@@ -28,7 +28,7 @@ pub fn is_marked(geometry: &Geometry, shape: Shape, r: i64, p: Point2) -> bool
         .any(|point| marked(shape, *point, p, r))
 }
 
-/// Whether the pen of half-width `r` at a position hits an edge of some ring.
+/// Whether the pen of half-width `r`, in doubled millionths, at a position hits an edge of some ring.
 pub fn hits_rings(geometry: &Geometry, r: i64, p: Point2) -> bool
     requires { IsRadius r }
     ensures { result ≡ hits_rings r p geometry.now }
@@ -50,7 +50,7 @@ fn hits_polygon(polygon: &Polygon, r: i64, p: Point2) -> bool
         .any(|ring| hits_ring(ring.as_slice(), r, p))
 }
 
-/// Whether the pen of half-width `r` at a position hits a segment of some line.
+/// Whether the pen of half-width `r`, in doubled millionths, at a position hits a segment of some line.
 pub fn hits_lines(geometry: &Geometry, r: i64, p: Point2) -> bool
     requires { IsRadius r }
     ensures { result ≡ hits_lines r p geometry.now }

@@ -20,7 +20,8 @@ use cv_scan::{Scratch, fill_runs};
 use std::alloc::Global;
 use std::sync::ledger::Ledger;
 
-/// The memory that a painting uses from feature to feature. It holds nothing that a caller can see.
+/// The memory that a painting uses from feature to feature: for marks, and for the runs of one geometry, row
+/// by row from the top. It holds nothing that a caller can see.
 #[derive(Drop)]
 pub struct Workspace {
     pub(crate) scratch: Scratch,
@@ -28,7 +29,7 @@ pub struct Workspace {
 }
 
 impl Workspace {
-    /// No memory yet.
+    /// No memory yet: what is needed is taken from `alloc` when a geometry is laid or covered.
     pub fn new(alloc: Global) -> Self {
         Workspace {
             scratch: Scratch::new(alloc),

@@ -18,8 +18,11 @@ pub fn count<L: Ledger>(steps: &mut Steps<L>, pixels: u32)
     }
 }
 
-/// Lays a colour on the pixels of a row that lie in a span, and leaves the others. Each of these pixels is a
-/// step. Takes no memory.
+/// Lays a colour on the pixels of a row that lie in a span, over what they have, and leaves the others. Each
+/// of these pixels is a step. A span may be empty. Takes no memory and can't fail.
+///
+/// The painter lays whole runs on canvases; this is for hosts that lay spans of their own on rows. Source:
+/// W3C Compositing and Blending Level 1, source-over, in whole numbers.
 pub fn lay<L: Ledger>(row: &mut [Rgba], span: Span, colour: Rgba, steps: &mut Steps<L>)
     requires order { span.from ≤ span.end }
     requires within { span.end ≤ length row.old }

@@ -111,11 +111,16 @@ pub fn strips_painted<S: Stop, L: Ledger>(
     Ok(pixels)
 }
 
-/// Strips of the layer of a piece, painted at its view by runs of pixels.
+/// Strips of the layer of a piece, painted at its view by runs of pixels: the same pixels that `paint` gives
+/// there. Those of the first strip come first, row by row from its top, and then those of the second; a strip
+/// is counted in the view's columns and rows, from the top left.
 ///
-/// The stop is asked before each row of each strip is finished, and now and then while features are laid;
-/// after a yes nothing more is painted. A step is an edge, a segment or a point visited for one row, or one
-/// stroke, mask test or grid cell laid on one pixel.
+/// The stop is asked before each row of each strip is finished, and now and then while features are laid or a
+/// join layer or a mask layer is read; after a yes nothing more is painted. A step is an edge, a segment or a
+/// point visited for one row, or one stroke, mask test or grid cell laid on one pixel; steps are counted at
+/// an error too. Errors: `Stopped` at a yes, `NoMemory` where memory is wanting; the piece stays as it is at
+/// both. Source: this project's own rules; colours are laid by W3C Compositing and Blending Level 1,
+/// source-over.
 pub fn paint_strips<S: Stop, L: Ledger>(
     alloc: Global,
     piece: &Piece,

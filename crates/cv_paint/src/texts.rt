@@ -10,7 +10,7 @@ use cv_layer::{FeatureRow, LayerContents, LayerInput, Table};
 use cv_model::{Field, Join, Style, Symbol, Text};
 use cv_symbol::symbol;
 
-/// The place of the first column of a name.
+/// The place, from 0 on, of the first column of a name; none where no column has it.
 pub fn column(columns: &[Text], name: &Text) -> Option<usize>
     ensures { result ≡ position (bytes_eq name.now) columns.now }
 {

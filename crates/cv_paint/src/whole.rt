@@ -53,8 +53,16 @@ fn pixels_painted<S: Stop, L: Ledger>(
 
 /// The layer of a piece painted at its view, by runs of pixels: all of it as one strip.
 ///
-/// The stop is asked before each row is finished, and now and then while features are laid; after a yes
-/// nothing more is painted.
+/// The image has the view's pixels, row by row from the top; the view's edges are in doubled millionths of a
+/// map unit, the side of its pixels in millionths. What lies on a pixel is decided at its centre, the first
+/// feature below the later ones, and of each feature the fill, the pen and the marker in this order. Blend
+/// mode, opacity and range of scales of the layer change nothing here: they matter where images are put
+/// together.
+///
+/// The stop is asked before each row is finished, and now and then while features are laid or a join layer or
+/// a mask layer is read; after a yes nothing more is painted. Errors: `Stopped` at a yes, `NoMemory` where
+/// memory is wanting; the piece stays as it is at both. Source: this project's own rules; colours are laid by
+/// W3C Compositing and Blending Level 1, source-over.
 pub fn paint<S: Stop>(
     alloc: Global,
     piece: &Piece,

@@ -82,7 +82,7 @@ fn widest_range(classes: &[Range]) -> u32
     widest
 }
 
-/// The width of the widest symbol that a style can give; 1 where there is none.
+/// The width in pixels of the widest pen or marker that a style can give; 1 where there is none.
 pub fn widest_of(style: &Style) -> u32
     ensures { IsWidest style.now result }
 {

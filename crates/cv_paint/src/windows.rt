@@ -44,7 +44,8 @@ fn top_of(view: &View, j: u32) -> i64
     view.ty2 - reach(j, view.h, view.u)
 }
 
-/// The view whose pixels are those of a rectangle of another one.
+/// The view whose pixels are those of a rectangle of another one, columns counted from its left and rows from
+/// its top. Its pixels have the same side.
 pub fn window(view: &View, r: Rect) -> View
     requires within { LiesInView view.now r }
     requires wide { 1 ≤ r.w }

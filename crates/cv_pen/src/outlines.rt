@@ -258,6 +258,7 @@ fn put_path<L: Ledger>(
     let mut before = first;
     for point in points {
         put_segment(before, *point, width, view, sides, area, into, steps)?;
+        into.unite_if_many()?;
         before = *point;
     }
     Ok(())
@@ -314,6 +315,7 @@ fn put_markers<L: Ledger>(
 {
     for point in points {
         put_marker(*point, shape, size, view, sides, area, into, steps)?;
+        into.unite_if_many()?;
     }
     Ok(())
 }

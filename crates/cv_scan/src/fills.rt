@@ -58,6 +58,7 @@ fn put_polygons<L: Ledger>(
 {
     for polygon in polygons {
         put_polygon(scratch, polygon, view, sides, area, into, steps)?;
+        into.unite_if_many()?;
     }
     Ok(())
 }

@@ -95,21 +95,18 @@ fn numbered(alloc: Global, seed: &mut u32) -> Result<String, NoMemory> {
 }
 
 /// A style of all parts in the first range and a fill in the second.
-fn by_parts(alloc: Global, joined: bool) -> Result<Style, NoMemory>
+fn by_parts(alloc: Global, seed: &mut u32, joined: bool) -> Result<Style, NoMemory>
     ensures { IfOk result (λ made. is_ramp made ≡ false) }
 {
-    by_number(
-        alloc,
-        joined,
-        all_parts(Shape::Square),
-        fill(opaque(0, 255)),
-    )
+    let parts = all_parts(seed, Shape::Square);
+    by_number(alloc, joined, parts, fill(opaque(0, 255)))
 }
 
 /// What is to be painted of a random graduated layer without mask.
 fn alone(alloc: Global, seed: &mut u32) -> Result<Piece, Fail> {
     let text = numbered(alloc, seed)?;
-    let own = layer(alloc, 1, text.as_str(), by_parts(alloc, false)?, None, None)?;
+    let style = by_parts(alloc, seed, false)?;
+    let own = layer(alloc, 1, text.as_str(), style, None, None)?;
     piece(alloc, LayerInput::of(own, None, None), 9, 7)
 }
 
@@ -163,7 +160,7 @@ fn by_key(alloc: Global) -> Result<Join, NoMemory>
 /// What is to be painted of a random layer, graduated by joined numbers, through a random mask layer.
 fn joined(alloc: Global, seed: &mut u32) -> Result<Piece, Fail> {
     let (own, there) = keyed(alloc, seed)?;
-    let (style, join) = (by_parts(alloc, true)?, by_key(alloc)?);
+    let (style, join) = (by_parts(alloc, seed, true)?, by_key(alloc)?);
     let own = layer(alloc, 1, own.as_str(), style, Some(3), Some(join))?;
     let there = single(alloc, 2, there.as_str(), fill(opaque(9, 9)), None)?;
     let mask = mask(alloc, seed)?;

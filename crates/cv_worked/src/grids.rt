@@ -1,8 +1,10 @@
 //! Grids: the cells at the centres of pixels, as wide as a pixel, wider and narrower.
 
+ghost use Rattle.std.specs.Prelude.{◌≡◌, None, IfOk};
+
 use crate::layers::{fill, grid, piece, single};
 use crate::random::{agreed, agreement, mask, next};
-use cv_layer::{LayerInput, Piece};
+use cv_layer::{LayerInput, Piece, SharedLayer};
 use cv_model::{NoMemory, Ramp, RampKind, Rgba, Stop, StopList};
 use std::alloc::Global;
 use std::test::Fail;
@@ -14,6 +16,11 @@ fn opaque(r: u8, g: u8, b: u8) -> Rgba {
 
 /// Red for 1, green for 2, blue for 3 and grey for 4.
 pub fn letters(alloc: Global) -> Result<Ramp, NoMemory> {
+    letters_by(alloc, RampKind::Exact)
+}
+
+/// The same, and for the numbers between them what a kind of ramp has there.
+fn letters_by(alloc: Global, kind: RampKind) -> Result<Ramp, NoMemory> {
     let mut stops = StopList::new(alloc);
     stops.put(Stop {
         value: 1_000_000,
@@ -31,7 +38,7 @@ pub fn letters(alloc: Global) -> Result<Ramp, NoMemory> {
         value: 4_000_000,
         colour: opaque(200, 200, 200),
     })?;
-    Ok(Ramp::of(RampKind::Exact, stops))
+    Ok(Ramp::of(kind, stops))
 }
 
 /// The marks of the grid in a text, and whether both painters agree.
@@ -110,8 +117,24 @@ fn random_text(alloc: Global, seed: &mut u32) -> Result<String, NoMemory> {
     for _ in 0..20 {
         text.push(' ')?;
         text.push(char::from(b'0' + next(seed) % 5))?;
+        text.push_str(if next(seed) < 128 { ".3" } else { "" })?;
     }
     Ok(text)
+}
+
+/// A random grid, coloured by a ramp of a random kind.
+fn random(alloc: Global, seed: &mut u32, mask: Option<u32>) -> Result<SharedLayer, Fail>
+    ensures id { IfOk result (λ made. made.core.id ≡ 1) }
+    ensures mask { IfOk result (λ made. made.core.mask ≡ mask) }
+    ensures join { IfOk result (λ made. made.core.join ≡ None) }
+{
+    let text = random_text(alloc, seed)?;
+    let kind = match next(seed) % 3 {
+        0 => RampKind::Exact,
+        1 => RampKind::Discrete,
+        _ => RampKind::Linear,
+    };
+    grid(alloc, 1, text.as_str(), letters_by(alloc, kind)?, mask)
 }
 
 #[test]
@@ -119,8 +142,8 @@ fn random_grids_are_painted_as_by_centres(rt: HostRuntime) -> Result<(), Fail> {
     let alloc = rt.alloc();
     let mut seed = 24;
     for _ in 0..40 {
-        let text = random_text(alloc, &mut seed)?;
-        let (_, same) = drawn(alloc, text.as_str(), 9, 7)?;
+        let own = random(alloc, &mut seed, None)?;
+        let (_, same) = agreed(alloc, LayerInput::of(own, None, None), 9, 7)?;
         assert!(rt; same);
     }
     Ok(())
@@ -128,8 +151,7 @@ fn random_grids_are_painted_as_by_centres(rt: HostRuntime) -> Result<(), Fail> {
 
 /// What is to be painted of a random grid, through a random mask layer.
 fn masked(alloc: Global, seed: &mut u32) -> Result<Piece, Fail> {
-    let text = random_text(alloc, seed)?;
-    let own = grid(alloc, 1, text.as_str(), letters(alloc)?, Some(3))?;
+    let own = random(alloc, seed, Some(3))?;
     let mask = mask(alloc, seed)?;
     piece(alloc, LayerInput::of(own, Some(mask), None), 9, 7)
 }

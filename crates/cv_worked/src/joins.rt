@@ -4,9 +4,11 @@ ghost use Rattle.std.specs.Prelude.{◌≡◌, ◌+◌, false, length, IfOk, OnO
 ghost use Rattle.cv_model.specs.ProjectFiles.{is_ramp};
 
 use crate::layers::{fill, layer, piece, single};
-use crate::random::{agreed, agreement, mask, next};
+use crate::random::{agreed, agreement, all_parts, mask, next, push_geometry};
 use cv_layer::{LayerInput, Piece};
-use cv_model::{Class, ClassList, Field, Join, NoMemory, Rgba, Sequence, Style, Text};
+use cv_model::{
+    Class, ClassList, Field, Join, NoMemory, Rgba, Sequence, Shape, Style, Symbol, Text,
+};
 use std::alloc::Global;
 use std::test::Fail;
 
@@ -26,13 +28,13 @@ fn put_class(
     alloc: Global,
     classes: &mut Sequence<Class>,
     value: &str,
-    colour: Rgba,
+    symbol: Symbol,
 ) -> Result<(), NoMemory>
     ensures { OnOk result (length classes.new ≡ length classes.old + 1) }
 {
     classes.put(Class {
         value: Text::of(alloc, value)?,
-        symbol: fill(colour),
+        symbol,
     })
 }
 
@@ -41,9 +43,9 @@ fn by_kind(alloc: Global, joined: bool) -> Result<Style, NoMemory>
     ensures { IfOk result (λ made. is_ramp made ≡ false) }
 {
     let mut classes = Sequence::new(alloc);
-    put_class(alloc, &mut classes, "red", opaque(255, 0, 0))?;
-    put_class(alloc, &mut classes, "blue", opaque(0, 0, 255))?;
-    put_class(alloc, &mut classes, "red", opaque(200, 200, 200))?;
+    put_class(alloc, &mut classes, "red", fill(opaque(255, 0, 0)))?;
+    put_class(alloc, &mut classes, "blue", fill(opaque(0, 0, 255)))?;
+    put_class(alloc, &mut classes, "red", fill(opaque(200, 200, 200)))?;
     let field = Field {
         joined,
         name: Text::of(alloc, "kind")?,
@@ -188,5 +190,45 @@ fn random_joins_through_masks_are_painted_as_by_centres(rt: HostRuntime) -> Resu
         shown = shown.saturating_add(seen);
     }
     assert!(rt; 0 < shown && shown < 160);
+    Ok(())
+}
+
+/// All parts for `red`, a green fill for `blue`, nothing for any other.
+fn by_parts(alloc: Global, seed: &mut u32) -> Result<Style, NoMemory>
+    ensures { IfOk result (λ made. is_ramp made ≡ false) }
+{
+    let mut classes = Sequence::new(alloc);
+    put_class(alloc, &mut classes, "red", all_parts(seed, Shape::Circle))?;
+    put_class(alloc, &mut classes, "blue", fill(opaque(0, 255, 0)))?;
+    let field = Field {
+        joined: false,
+        name: Text::of(alloc, "kind")?,
+    };
+    Ok(Style::Categorised(field, ClassList::of(classes), None))
+}
+
+/// What is to be painted of four features with random geometries, each by its own random kind.
+fn of_kinds(alloc: Global, seed: &mut u32) -> Result<Piece, Fail> {
+    let mut text = String::from_str(alloc, "wkt;key;kind\n")?;
+    for _ in 0..4 {
+        push_geometry(&mut text, seed)?;
+        push_kind(&mut text, seed)?;
+    }
+    let style = by_parts(alloc, seed)?;
+    let own = layer(alloc, 1, text.as_str(), style, None, None)?;
+    piece(alloc, LayerInput::of(own, None, None), 9, 7)
+}
+
+#[test]
+fn random_kinds_are_painted_as_by_centres(rt: HostRuntime) -> Result<(), Fail> {
+    let alloc = rt.alloc();
+    let (mut seed, mut shown) = (31, 0usize);
+    for _ in 0..20 {
+        let piece = of_kinds(alloc, &mut seed)?;
+        let (same, seen) = agreement(alloc, &piece)?;
+        assert_eq!(rt; same, 63);
+        shown = shown.saturating_add(seen);
+    }
+    assert!(rt; shown > 0);
     Ok(())
 }

@@ -72,7 +72,7 @@ fn a_common_edge_is_painted_once(rt: HostRuntime) -> Result<(), Fail> {
 
 #[test]
 fn a_hole_is_left_out(rt: HostRuntime) -> Result<(), Fail> {
-    let text = "wkt\nPOLYGON((0 0,4 0,4 4,0 4),(1.5 0.5,2.5 1.5,1.5 2.5,0.5 1.5))\n";
+    let text = "wkt\nPOLYGON((0 0,4 0,4 4,0 4,0 0),(1.5 0.5,2.5 1.5,1.5 2.5,0.5 1.5,1.5 0.5))\n";
     let marks = drawn(rt.alloc(), text, fill(RED), 4, 4)?;
     assert_eq!(rt; marks.as_str(), "rrrrrrrr..rrrrrr");
     Ok(())

@@ -1,9 +1,9 @@
-use Rattle.std.proofs.Common.{◌-◌}
+use Rattle.std.proofs.Common.{◌-◌, take}
 use Rattle.cv_layer.proofs.TableLemmas.{IsNarrowed}
 use Rattle.cv_layer.proofs.table.find_by_halves.Given as goal
 
 abbrev pub invariant-loop-low : goal.invariant-loop-low
-invariant-loop-low l = IsNarrowed l.rows l.id l.low l.high
+invariant-loop-low l = IsNarrowed (take l.first l.rows) l.id l.low l.high
 
 -- proposed from the loop's first test
 abbrev pub decreases-loop-low : goal.decreases-loop-low

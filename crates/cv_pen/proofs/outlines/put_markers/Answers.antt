@@ -5,7 +5,7 @@ use Rattle.cv_model.specs.Markers.{is_marked}
 use Rattle.cv_model.specs.Pictures.{half_side}
 use Rattle.cv_model.specs.Views.{centre_of}
 use Rattle.cv_geom.specs.Runs.{rows_of}
-use Rattle.cv_geom.proofs.RunLemmas.{still-step}
+use Rattle.cv_geom.proofs.RunLemmas.{still-step, adds-united}
 use Rattle.cv_pen.proofs.OutlineLemmas.{one-paid}
 use Rattle.cv_pen.proofs.outlines.put_markers.Goals as goal
 
@@ -26,8 +26,8 @@ loop-point-preserved g c =
           (λ i j. is_marked c.args.shape (half_side v c.args.size) (centre_of v i j) item)
           (λ i j. list_any (is_marked c.args.shape (half_side v c.args.size) (centre_of v i j)) (drop at xs))
           (λ i j. list_any (is_marked c.args.shape (half_side v c.args.size) (centre_of v i j)) (drop (at + 1) xs)) c.args.area c.args.into.now
-          c.loop-point.into c.put_marker.new.into (λ i j. ap (list_any (is_marked c.args.shape (half_side v c.args.size) (centre_of v i j))) is) told.added
-          c.in_ok-put_marker.ensures.added;
+          c.loop-point.into c.unite_if_many.new.self (λ i j. ap (list_any (is_marked c.args.shape (half_side v c.args.size) (centre_of v i j))) is) told.added
+          (adds-united _ _ _ _ _ c.in_ok-put_marker.ensures.added c.in_ok-unite_if_many.ensures);
       cost =
           one-paid c.loop-point.steps c.put_marker.new.steps _ (rows_of c.args.area) (1)
           (length (drop (at + 1) xs)) (length (drop at xs))

@@ -6,7 +6,7 @@ use Rattle.cv_model.specs.Pens.{is_near}
 use Rattle.cv_model.specs.Pictures.{half_side}
 use Rattle.cv_model.specs.Views.{centre_of}
 use Rattle.cv_geom.specs.Runs.{rows_of}
-use Rattle.cv_geom.proofs.RunLemmas.{still-step}
+use Rattle.cv_geom.proofs.RunLemmas.{still-step, adds-united}
 use Rattle.cv_pen.proofs.OutlineLemmas.{one-paid}
 use Rattle.cv_pen.proofs.outlines.put_path.Goals as goal
 
@@ -29,9 +29,9 @@ loop-point-preserved g c =
           (λ i j. is_near r (centre_of v i j) (before, item))
           (λ i j. list_any (is_near r (centre_of v i j)) (edges_from before (drop at xs)))
           (λ i j. list_any (is_near r (centre_of v i j)) (edges_from item (drop (at + 1) xs))) c.args.area
-          c.args.into.now c.loop-point.into c.put_segment.new.into
+          c.args.into.now c.loop-point.into c.unite_if_many.new.self
           (λ i j. ap (λ ps. list_any (is_near r (centre_of v i j)) (edges_from before ps)) is) told.added
-          c.in_ok-put_segment.ensures.added;
+          (adds-united _ _ _ _ _ c.in_ok-put_segment.ensures.added c.in_ok-unite_if_many.ensures);
       cost =
           one-paid c.loop-point.steps c.put_segment.new.steps _ (rows_of c.args.area) 1 (length (drop (at + 1) xs))
           (length (drop at xs)) (ap length is ∙ omega arith) told.cost (omega (arith, c.in_ok-put_segment.ensures.cost));

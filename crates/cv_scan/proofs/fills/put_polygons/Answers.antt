@@ -5,7 +5,7 @@ use Rattle.cv_model.specs.Positions.{Position}
 use Rattle.cv_model.specs.Polygons.{edges, is_inside}
 use Rattle.cv_model.specs.Views.{centre_of}
 use Rattle.cv_geom.specs.Runs.{edges_of, rows_of}
-use Rattle.cv_geom.proofs.RunLemmas.{still-step}
+use Rattle.cv_geom.proofs.RunLemmas.{still-step, adds-united}
 use Rattle.cv_scan.proofs.fills.put_polygons.Goals as goal
 
 -- the steps of one polygon are paid
@@ -40,8 +40,8 @@ loop-polygon-preserved g c =
           (λ i j. is_inside (centre_of v i j) item)
           (λ i j. list_any (is_inside (centre_of v i j)) (drop at xs))
           (λ i j. list_any (is_inside (centre_of v i j)) (drop (at + 1) xs)) c.args.area c.args.into.now
-          c.loop-polygon.into c.put_polygon.new.into (λ i j. ap (list_any (is_inside (centre_of v i j))) is) told.added
-          c.in_ok-put_polygon.ensures.added;
+          c.loop-polygon.into c.unite_if_many.new.self (λ i j. ap (list_any (is_inside (centre_of v i j))) is) told.added
+          (adds-united _ _ _ _ _ c.in_ok-put_polygon.ensures.added c.in_ok-unite_if_many.ensures);
       cost =
           one-polygon c.loop-polygon.steps c.put_polygon.new.steps _ (rows_of c.args.area) item (drop (at + 1) xs)
           (drop at xs) is told.cost c.in_ok-put_polygon.ensures.cost;
