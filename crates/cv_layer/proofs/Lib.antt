@@ -1,4 +1,5 @@
 -- Lemmas about the definitions of layers.
 pub mod BoxLemmas
+pub mod StretchLemmas
 pub mod TableLemmas
 pub mod PlaceLemmas

@@ -2,16 +2,16 @@
 use Rattle.std.proofs.Common.{◌≡◌, ◌∙◌, sym, ap, subst, refl, ℕ, zero, suc, ◌+◌, ◌<◌, ◌≤◌, Bool, true, false, not}
 use Rattle.std.proofs.Common.{List, [], ◌∷◌, ◌++◌, length, take, drop, Some, None, arith, cond}
 use Rattle.std.proofs.Common.{set, ◌||◌, ◌-◌}
-use Rattle.std.specs.Prelude.{All, insert, remove, position, nat_eq, slice_index_or as get_or, sum_by}
+use Rattle.std.specs.Prelude.{insert, remove, position, nat_eq, slice_index_or as get_or, sum_by}
 use Rattle.std.specs.Prelude.{if◌then◌else◌, ◌==◌, slice_get, nat_lt}
 use Rattle.std.specs.List.{list_any, AllByRecursion, IsDistinct, position_or_len}
 use Rattle.std.proofs.lemmas.Bool.{false≢true}
 use Rattle.std.proofs.lemmas.Bool.Decides.{nat_tests}
-use Rattle.std.proofs.lemmas.List.{take-map, length-set, get_or-drop, get_or-take, length-take, length-take-le, length-drop, append_assoc, set_split}
-use Rattle.std.proofs.lemmas.List.Edits.{length-insert, length-remove}
+use Rattle.std.proofs.lemmas.List.{take-map, drop-map, drop-drop, drop-take, take-take, get_or-map}
+use Rattle.std.proofs.lemmas.List.{get_or-drop, get_or-take, length-take, length-take-le, length-drop, append_assoc, set_split}
 use Rattle.std.proofs.lemmas.List.Sums.{fails_before_first}
 use Rattle.cv_chunks.specs.Parts.{IsRunFrom}
-use Rattle.std.proofs.lemmas.List.Elements.{All-head, All-tail, All-cons, All-append, All-take, All-drop}
+use Rattle.std.proofs.lemmas.List.Elements.{All-cons, All-append, All-take, All-drop}
 use Rattle.std.proofs.lemmas.List.Elements.{All-set, All-get_or}
 use Rattle.std.proofs.lemmas.List.Sums.{sum_by-set, sum_by-insert, sum_by-remove, get_or-le-sum_by}
 use Rattle.std.proofs.lemmas.List.Sums.{position_or_len_is}
@@ -23,7 +23,10 @@ use Rattle.cv_model.specs.declared.feature.Feature.{Feature}
 use Rattle.cv_model.specs.Features.{ids_of}
 use Rattle.cv_model.specs.Edits.{is_feature, change_feature, without_feature}
 use Rattle.cv_model.specs.Edits.{feature_vertices}
-use Rattle.cv_layer.specs.Tables.{TableParts, IsTable, Ascend, IsBetween, feature_values}
+use Rattle.cv_layer.specs.declared.stretches.Stretch.{Stretch}
+use Rattle.cv_layer.specs.Stretches.{Ascend, IsStretch, AreStretches}
+use Rattle.cv_layer.specs.Tables.{TableParts, IsTable, feature_values}
+use Rattle.cv_layer.proofs.StretchLemmas.{part_of_stretch}
 
 -- ---- the place of a feature
 
@@ -177,102 +180,6 @@ ids_set (g ∷ fs) (suc n) f d h = ap (λ l. g.id ∷ l) (ids_set fs n f d h)
 
 -- ---- ascending ids
 
-ascend_insert : (xs : List ℕ) (n y : ℕ) → Ascend xs → IsBetween xs n y → Ascend (insert xs n y)
-ascend_insert xs zero y h between = (between.1, h)
-ascend_insert [] (suc n) y h between = (tt, tt)
-ascend_insert (x ∷ xs) (suc n) y h between =
-    (all_insert (λ z. x < z) xs n y h.0 between.0.0, ascend_insert xs n y h.1 (between.0.1, between.1))
-
-ascend_remove : (xs : List ℕ) (n : ℕ) → Ascend xs → Ascend (remove xs n)
-ascend_remove [] zero h = h
-ascend_remove [] (suc n) h = h
-ascend_remove (x ∷ xs) zero h = h.1
-ascend_remove (x ∷ xs) (suc n) h = (all_remove (λ z. x < z) xs n h.0, ascend_remove xs n h.1)
-
-pub insert_ascends : (fs : List Feature) (n : ℕ) (f : Feature) → Ascend (ids_of fs)
-    → IsBetween (ids_of fs) n f.id → Ascend (ids_of (insert fs n f))
-insert_ascends fs n f h between = rw (ids_insert fs n f) (ascend_insert (ids_of fs) n f.id h between)
-
--- ---- the first ids
-
-all_shorter : (P : ℕ → Type 0) (xs : List ℕ) (k m : ℕ) → k ≤ m → AllByRecursion P (take m xs)
-    → AllByRecursion P (take k xs)
-all_shorter P xs zero m h all = tt
-all_shorter P xs (suc k) zero h all = absurd (omega arith)
-all_shorter P [] (suc k) (suc m) h all = tt
-all_shorter P (x ∷ xs) (suc k) (suc m) h all = (all.0, all_shorter P xs k m (omega arith) all.1)
-
-ascend_shorter : (xs : List ℕ) (k m : ℕ) → k ≤ m → Ascend (take m xs) → Ascend (take k xs)
-ascend_shorter xs zero m h up = tt
-ascend_shorter xs (suc k) zero h up = absurd (omega arith)
-ascend_shorter [] (suc k) (suc m) h up = tt
-ascend_shorter (x ∷ xs) (suc k) (suc m) h up =
-    (all_shorter (λ z. x < z) xs k m (omega arith) up.0, ascend_shorter xs k m (omega arith) up.1)
-
--- what is put in at a place or behind it leaves the numbers before it
-take_insert_before : (xs : List ℕ) (k n y : ℕ) → k ≤ n → n ≤ length xs → take k (insert xs n y) ≡ take k xs
-take_insert_before xs zero n y h within = refl
-take_insert_before xs (suc k) zero y h within = absurd (omega arith)
-take_insert_before [] (suc k) (suc n) y h within = absurd (omega arith)
-take_insert_before (x ∷ xs) (suc k) (suc n) y h within =
-    ap (λ l. x ∷ l) (take_insert_before xs k n y (omega arith) (omega arith))
-
-take_insert_within : (xs : List ℕ) (k n y : ℕ) → n ≤ k → k ≤ length xs
-    → take (suc k) (insert xs n y) ≡ insert (take k xs) n y
-take_insert_within xs k zero y h within = refl
-take_insert_within xs zero (suc n) y h within = absurd (omega arith)
-take_insert_within [] (suc k) (suc n) y h within = absurd (omega arith)
-take_insert_within (x ∷ xs) (suc k) (suc n) y h within =
-    ap (λ l. x ∷ l) (take_insert_within xs k n y (omega arith) (omega arith))
-
-take_remove_before : (xs : List ℕ) (k n : ℕ) → k ≤ n → take k (remove xs n) ≡ take k xs
-take_remove_before xs zero n h = refl
-take_remove_before xs (suc k) zero h = absurd (omega arith)
-take_remove_before [] (suc k) (suc n) h = refl
-take_remove_before (x ∷ xs) (suc k) (suc n) h = ap (λ l. x ∷ l) (take_remove_before xs k n (omega arith))
-
-take_remove_within : (xs : List ℕ) (k n : ℕ) → n ≤ k → take k (remove xs n) ≡ remove (take (suc k) xs) n
-take_remove_within [] zero zero h = refl
-take_remove_within [] (suc k) zero h = refl
-take_remove_within [] zero (suc n) h = absurd (omega arith)
-take_remove_within [] (suc k) (suc n) h = refl
-take_remove_within (x ∷ xs) k zero h = refl
-take_remove_within (x ∷ xs) zero (suc n) h = absurd (omega arith)
-take_remove_within (x ∷ xs) (suc k) (suc n) h = ap (λ l. x ∷ l) (take_remove_within xs k n (omega arith))
-
--- a number put in behind the first
-pub first_before : (xs : List ℕ) (first n y : ℕ) → first ≤ n → n ≤ length xs → Ascend (take first xs)
-    → Ascend (take first (insert xs n y))
-first_before xs first n y h within up = subst Ascend (sym (take_insert_before xs first n y h within)) up
-
--- among them in order
-pub first_more : (xs : List ℕ) (first n y : ℕ) → n ≤ first → first ≤ length xs → Ascend (take first xs)
-    → IsBetween (take first xs) n y → Ascend (take (first + 1) (insert xs n y))
-first_more xs first n y h within up between =
-    let more : first + 1 ≡ suc first = omega arith in
-    subst Ascend (sym (ap (λ k. take k (insert xs n y)) more ∙ take_insert_within xs first n y h within))
-    (ascend_insert (take first xs) n y up between)
-
--- or out of order
-pub first_cut : (xs : List ℕ) (first n y : ℕ) → n ≤ first → n ≤ length xs → Ascend (take first xs)
-    → Ascend (take n (insert xs n y))
-first_cut xs first n y h within up =
-    first_before xs n n y (omega arith) within (ascend_shorter xs n first h up)
-
--- the first without one of them, or without one behind them
-pub first_without : (xs : List ℕ) (first n less : ℕ) → (n < first → less + 1 ≡ first) → (first ≤ n → less ≡ first)
-    → Ascend (take first xs) → Ascend (take less (remove xs n))
-first_without xs first n less among behind up = dite (dec_le first n)
-    (λ h. subst Ascend (sym (ap (λ k. take k (remove xs n)) (behind h) ∙ take_remove_before xs first n h)) up)
-    (λ h.
-    let is : first ≡ suc less = let e = among (omega (arith, h)) in omega (arith, e) in
-    subst Ascend (sym (take_remove_within xs less n (omega (arith, h, is))))
-    (ascend_remove (take (suc less) xs) n (subst (λ k. Ascend (take k xs)) is up)))
-
--- the ids of the first features
-pub first_ids : (fs : List Feature) (first : ℕ) → Ascend (take first (ids_of fs)) → Ascend (ids_of (take first fs))
-first_ids fs first up = subst Ascend (take-map (λ (f : Feature). f.id) first fs) up
-
 -- the feature at a place of a list whose features' ids are all above a number
 above_at : (fs : List Feature) (x k : ℕ) (d : Feature) → AllByRecursion (λ y. x < y) (ids_of fs) → k < length fs
     → x < (get_or fs k d).id
@@ -289,49 +196,6 @@ ascending_at (f ∷ fs) zero (suc j) d h before within = above_at fs f.id j d h.
 ascending_at (f ∷ fs) (suc i) (suc j) d h before within =
     ascending_at fs i j d h.1 (omega arith) (omega arith)
 
--- numbers above a greater one are above a less one
-above_less : (x y : ℕ) (ids : List ℕ) → x < y → AllByRecursion (λ z. y < z) ids → AllByRecursion (λ z. x < z) ids
-above_less x y [] less h = tt
-above_less x y (z ∷ ids) less h = (omega (arith, h.0), above_less x y ids less h.1)
-
--- an id that is greater than that of the feature before a place, and less than that of the one there
-pub between_neighbours : (fs : List Feature) (n id : ℕ) → Ascend (ids_of fs) → n ≤ length fs
-    → ((k : ℕ) (d : Feature) → k + 1 ≡ n → (get_or fs k d).id < id)
-    → ((d : Feature) → n < length fs → id < (get_or fs n d).id) → IsBetween (ids_of fs) n id
-between_neighbours [] zero id h within above below = (tt, tt)
-between_neighbours [] (suc n) id h within above below = absurd (omega arith)
-between_neighbours (f ∷ fs) zero id h within above below =
-    let first : id < f.id = below f (omega arith) in
-    (tt, (first, above_less id f.id (ids_of fs) first h.0))
-between_neighbours (f ∷ fs) (suc n) id h within above below =
-    let rest = between_neighbours fs n id h.1 (omega arith) (λ k d e. above (suc k) d (omega (arith, e)))
-    (λ d l. below d (omega arith)) in
-    ((first n above (omega arith), rest.0), rest.1)
-  where
-    first : (n : ℕ) → ((k : ℕ) (d : Feature) → k + 1 ≡ suc n → (get_or (f ∷ fs) k d).id < id)
-        → n ≤ length fs → f.id < id
-    first zero above within = above 0 f (omega arith)
-    first (suc m) above within =
-        let last = above (suc m) f (omega arith) in
-        let front = above_at fs f.id m f h.0 (omega arith) in
-        omega arith
-
--- a feature put behind those of less ids
-pub push_ascends : (fs : List Feature) (f : Feature) → Ascend (ids_of fs) → All (λ (g : Feature). g.id < f.id) fs
-    → Ascend (ids_of (fs ++ f ∷ []))
-push_ascends fs f h all =
-    subst (λ l. Ascend (ids_of l)) (at_end fs f) (insert_ascends fs (length fs) f h (between fs all))
-  where
-    at_end : (fs : List Feature) (f : Feature) → insert fs (length fs) f ≡ fs ++ f ∷ []
-    at_end [] f = refl
-    at_end (g ∷ fs) f = ap (λ l. g ∷ l) (at_end fs f)
-
-    between : (fs : List Feature) → All (λ (g : Feature). g.id < f.id) fs → IsBetween (ids_of fs) (length fs) f.id
-    between [] all = (tt, tt)
-    between (g ∷ fs) all =
-        let more = between fs (All-tail (λ (g : Feature). g.id < f.id) g fs all) in
-        ((All-head (λ (g : Feature). g.id < f.id) g fs all, more.0), more.1)
-
 -- ---- tables
 
 -- a part of a sum is no more than the sum
@@ -341,12 +205,12 @@ part_of_total count fs n f h =
     rw (get_or_from_slice_get fs n f f h) at (get_or-le-sum_by count fs n f (slice_get_within fs n f h))
 
 -- a table whose feature at a place is another one of the same id and as many values
-pub table_set : (t : TableParts) (ascending vertices values n later : ℕ) (old new : Feature)
-    → IsTable t ascending vertices values → slice_get t.features n ≡ Some old
+pub table_set : (t : TableParts) (ss : List Stretch) (vertices values n later : ℕ) (old new : Feature)
+    → IsTable t ss vertices values → slice_get t.features n ≡ Some old
     → (old.id ≡ new.id) × (length old.values ≡ length new.values)
     → later + feature_vertices old ≡ vertices + feature_vertices new
-    → IsTable (record t { features = (set t.features n new) }) ascending later values
-table_set t ascending vertices values n later old new h at same counts =
+    → IsTable (record t { features = (set t.features n new) }) ss later values
+table_set t ss vertices values n later old new h at same counts =
     let fs = t.features in
     let within = slice_get_within fs n old at in
     let is = get_or_from_slice_get fs n old new at in
@@ -362,21 +226,19 @@ table_set t ascending vertices values n later old new h at same counts =
         whole = All-set (λ (f : Feature). length f.values ≡ length t.columns) fs n new
             (sym same.1 ∙ sym old_w ∙ was) h.table.whole;
       };
-      within = let long = length-set fs n new in omega (arith, h.within, long);
-      ascend = subst (λ l. Ascend (take ascending l)) (sym ids) h.ascend;
+      stretches = subst (AreStretches ss) (sym ids) h.stretches;
       vertices_are = omega (arith, v, old_v, counts, h.vertices_are);
       values_are = omega (arith, w, old_w, same.1, h.values_are);
     }
 
 -- a table with a feature more
-pub table_insert : (t : TableParts) (ascending before vertices values n : ℕ) (f : Feature)
-    → IsTable t before vertices values → list_any (is_feature f.id) t.features ≡ false
-    → length f.values ≡ length t.columns
-    → n ≤ length t.features → ascending ≤ length t.features + 1
-    → Ascend (take ascending (insert (ids_of t.features) n f.id))
-    → IsTable (record t { features = (insert t.features n f) }) ascending (vertices + feature_vertices f)
+pub table_insert : (t : TableParts) (more ss : List Stretch) (vertices values n : ℕ) (f : Feature)
+    → IsTable t ss vertices values → list_any (is_feature f.id) t.features ≡ false
+    → length f.values ≡ length t.columns → n ≤ length t.features
+    → AreStretches more (insert (ids_of t.features) n f.id)
+    → IsTable (record t { features = (insert t.features n f) }) more (vertices + feature_vertices f)
     (values + length f.values)
-table_insert t ascending before vertices values n f h fresh even place within up =
+table_insert t more ss vertices values n f h fresh even place stretches =
     let fs = t.features in
     record {
       table = record {
@@ -386,19 +248,18 @@ table_insert t ascending before vertices values n f h fresh even place within up
             (All-cons (λ (g : Feature). length g.values ≡ length t.columns) f (drop n fs) even
             (All-drop (λ (g : Feature). length g.values ≡ length t.columns) n fs h.table.whole));
       };
-      within = let long = length-insert fs n f place in omega (arith, within, long);
-      ascend = subst (λ l. Ascend (take ascending l)) (sym (ids_insert fs n f)) up;
+      stretches = subst (AreStretches more) (sym (ids_insert fs n f)) stretches;
       vertices_are = ap (λ k. k + feature_vertices f) h.vertices_are ∙ sym (sum_by-insert feature_vertices fs n f);
       values_are = ap (λ k. k + length f.values) h.values_are ∙ sym (sum_by-insert feature_values fs n f);
     }
 
 -- a table with a feature less
-pub table_remove : (t : TableParts) (ascending first vertices values n fewer less : ℕ) (f : Feature)
-    → IsTable t first vertices values → slice_get t.features n ≡ Some f
-    → (n < first → ascending + 1 ≡ first) → (first ≤ n → ascending ≡ first)
+pub table_remove : (t : TableParts) (left ss : List Stretch) (vertices values n fewer less : ℕ) (f : Feature)
+    → IsTable t ss vertices values → slice_get t.features n ≡ Some f
+    → AreStretches left (remove (ids_of t.features) n)
     → fewer + feature_vertices f ≡ vertices → less + length f.values ≡ values
-    → IsTable (record t { features = (remove t.features n) }) ascending fewer less
-table_remove t ascending first vertices values n fewer less f h at among behind counts counts2 =
+    → IsTable (record t { features = (remove t.features n) }) left fewer less
+table_remove t left ss vertices values n fewer less f h at stretches counts counts2 =
     let fs = t.features in
     let within = slice_get_within fs n f at in
     let is = get_or_from_slice_get fs n f f at in
@@ -413,10 +274,7 @@ table_remove t ascending first vertices values n fewer less f h at among behind 
             (All-take (λ (g : Feature). length g.values ≡ length t.columns) n fs h.table.whole)
             (All-drop (λ (g : Feature). length g.values ≡ length t.columns) (suc n) fs h.table.whole);
       };
-      within = let long = length-remove fs n within in dite (dec_le first n)
-          (λ x. let e = behind x in omega (arith, e, x, within, long))
-          (λ x. let e = among (omega (arith, x)) in omega (arith, e, h.within, long));
-      ascend = subst (λ l. Ascend (take ascending l)) (sym (ids_remove fs n)) (first_without (ids_of fs) first n ascending among behind h.ascend);
+      stretches = subst (AreStretches left) (sym (ids_remove fs n)) stretches;
       vertices_are = omega (arith, v, old_v, counts, h.vertices_are);
       values_are = omega (arith, w, old_w, counts2, h.values_are);
     }
@@ -427,27 +285,27 @@ pub same_found : (fs : List Feature) (n : ℕ) (a b : Feature) → slice_get fs 
 same_found fs n a b h g = sym (get_or_from_slice_get fs n b a g) ∙ get_or_from_slice_get fs n a a h
 
 -- a feature of a table has a value for each column
-pub even_at : (t : TableParts) (ascending vertices values n : ℕ) (f : Feature)
-    → IsTable t ascending vertices values → slice_get t.features n ≡ Some f → length f.values ≡ length t.columns
-even_at t ascending vertices values n f h at =
+pub even_at : (t : TableParts) (ss : List Stretch) (vertices values n : ℕ) (f : Feature)
+    → IsTable t ss vertices values → slice_get t.features n ≡ Some f → length f.values ≡ length t.columns
+even_at t ss vertices values n f h at =
     ap (λ (g : Feature). length g.values) (sym (get_or_from_slice_get t.features n f f at))
     ∙ All-get_or (λ (g : Feature). length g.values ≡ length t.columns) t.features n f
     (slice_get_within t.features n f at) h.table.whole
 
 -- a change of a table's feature that has an id
-pub changed : (id : ℕ) (change : Feature → Feature) (t : TableParts) (ascending vertices values n : ℕ)
-    (old new : Feature) → IsTable t ascending vertices values → position (is_feature id) t.features ≡ Some n
+pub changed : (id : ℕ) (change : Feature → Feature) (t : TableParts) (ss : List Stretch) (vertices values n : ℕ)
+    (old new : Feature) → IsTable t ss vertices values → position (is_feature id) t.features ≡ Some n
     → slice_get t.features n ≡ Some old → new ≡ change old
     → change_feature id change t.features ≡ set t.features n new
-changed id change t ascending vertices values n old new h place at is =
+changed id change t ss vertices values n old new h place at is =
     change_found id change t.features old n h.table.distinct (found id t.features old n place)
     ∙ ap (λ f. set t.features n f) (ap change (get_or_from_slice_get t.features n old old at) ∙ sym is)
 
 -- a table's features without the one that has an id
-pub removed : (id : ℕ) (t : TableParts) (ascending vertices values n : ℕ) (d : Feature)
-    → IsTable t ascending vertices values → position (is_feature id) t.features ≡ Some n
+pub removed : (id : ℕ) (t : TableParts) (ss : List Stretch) (vertices values n : ℕ) (d : Feature)
+    → IsTable t ss vertices values → position (is_feature id) t.features ≡ Some n
     → without_feature id t.features ≡ remove t.features n
-removed id t ascending vertices values n d h place =
+removed id t ss vertices values n d h place =
     without_found id t.features n h.table.distinct (found id t.features d n place)
 
 -- ---- searches
@@ -487,27 +345,6 @@ none_at p fs k d none within = fails_before_first p fs k d (by (nat_lt (position
     by true e h = absurd cc
     by false e h = let over : length fs ≤ position_or_len p fs = grind (arith, nat_tests, e) in
         omega (arith, within, over)
-
--- what is found among the first features is found
-pub found_in_front : (id : ℕ) (fs : List Feature) (first n : ℕ) → first ≤ length fs
-    → position (is_feature id) (take first fs) ≡ Some n → position (is_feature id) fs ≡ Some n
-found_in_front id [] zero n within h = h
-found_in_front id [] (suc first) n within h = absurd (omega arith)
-found_in_front id (f ∷ fs) first n within h =
-    let known = position-Some (is_feature id) (take first (f ∷ fs)) n f h in
-    let long = length-take-le first (f ∷ fs) within in
-    position_at id (f ∷ fs) n (omega (arith, known.0, long, within))
-    (λ d. let here = position-Some (is_feature id) (take first (f ∷ fs)) n d h in
-    ap (is_feature id) (sym (get_or-take first (f ∷ fs) n d (omega (arith, known.0, long)))) ∙ here.1)
-    (λ k d l. let here = position-Some (is_feature id) (take first (f ∷ fs)) n d h in
-    ap (is_feature id) (sym (get_or-take first (f ∷ fs) k d (omega (arith, l, known.0, long)))) ∙ here.2 k l)
-
--- and what isn't found among them is none of them
-pub none_in_front : (id : ℕ) (fs : List Feature) (first k : ℕ) (d : Feature) → first ≤ length fs
-    → position (is_feature id) (take first fs) ≡ None → k < first → is_feature id (get_or fs k d) ≡ false
-none_in_front id fs first k d within none before =
-    ap (is_feature id) (sym (get_or-take first fs k d before))
-    ∙ none_at (is_feature id) (take first fs) k d none (let long = length-take-le first fs within in omega (arith, before, long))
 
 -- ids before one place are less than a number, and those from another on aren't
 pub record IsNarrowed (fs : List Feature) (id low high : ℕ) : Type 0 where
@@ -579,7 +416,55 @@ narrowed_none fs id low high h was met other =
         (λ ne. greater_differs _ _ (let less = ascending_at fs low k d h (omega (arith, ne, from)) l in
         omega (arith, less, above)))
 
--- ---- a pass by runs
+-- ---- a part of a stretch of features
+
+some_feature : Feature
+some_feature = record { id = 0; geometry = None; values = [] }
+
+-- some of the ids from a place on, of which there are so many, are ids from a later place on
+part_is : (ids : List ℕ) (start skip count whole : ℕ) → skip + count ≤ whole
+    → take count (drop skip (take whole (drop start ids))) ≡ take count (drop (start + skip) ids)
+part_is ids start skip count whole h =
+    let rest : whole ≡ skip + (whole - skip) = omega (arith, h) in
+    ap (λ n. take count (drop skip (take n (drop start ids)))) rest
+    ∙ ap (λ l. take count l) (drop-take skip (whole - skip) (drop start ids))
+    ∙ take-take count (whole - skip) (drop skip (drop start ids)) (omega (arith, h))
+    ∙ ap (λ l. take count l) (drop-drop skip start ids)
+
+id_in : (fs : List Feature) (start skip count : ℕ) → skip < count → start + count ≤ length fs
+    → get_or (take count (drop start (ids_of fs))) skip 0 ≡ (get_or fs (start + skip) some_feature).id
+id_in fs start skip count less within =
+    get_or-take count (drop start (ids_of fs)) skip 0 less ∙ get_or-drop start (ids_of fs) skip 0
+    ∙ get_or-map (λ (f : Feature). f.id) fs (start + skip) some_feature 0 (omega (arith, less, within))
+
+pub cut_is : (fs : List Feature) (w : Stretch) (start from to least greatest : ℕ)
+    → IsStretch w (take w.count (drop start (ids_of fs))) → start + w.count ≤ length fs → start ≤ from → from < to
+    → to ≤ start + w.count
+    → (from ≡ start → least ≡ w.least) → ((from ≡ start → ⊥) → (d : Feature) → least ≡ (get_or fs from d).id)
+    → (to ≡ start + w.count → greatest ≡ w.greatest)
+    → ((to ≡ start + w.count → ⊥) → (d : Feature) → greatest ≡ (get_or fs (to - 1) d).id)
+    → IsStretch (record { count = to - from; least = least; greatest = greatest })
+    (take (to - from) (drop from (ids_of fs)))
+cut_is fs w start from to least greatest h within before some after least_whole least_is greatest_whole greatest_is =
+    let ids = ids_of fs in
+    let skip = from - start in
+    let count = to - from in
+    let at : start + skip ≡ from = omega (arith, before) in
+    let end : skip + count ≤ w.count = omega (arith, before, some, after) in
+    let long = h.counted in
+    subst (IsStretch _) (part_is ids start skip count w.count end ∙ ap (λ n. take count (drop n ids)) at)
+    (part_of_stretch w (take w.count (drop start ids)) skip count least greatest 0 h (omega (arith, some))
+    (omega (arith, end, long))
+    (λ l. least_is (λ e. absurd (omega (arith, l, e))) some_feature
+    ∙ ap (λ n. (get_or fs n some_feature).id) (sym at)
+    ∙ sym (id_in fs start skip w.count (omega (arith, end, some)) within))
+    (λ e. least_whole (omega (arith, e, before)))
+    (λ l. greatest_is (λ e. absurd (omega (arith, l, e, before, some))) some_feature
+    ∙ ap (λ n. (get_or fs n some_feature).id) (let last : to - 1 ≡ start + (skip + count - 1) = omega (arith, before, some) in last)
+    ∙ sym (id_in fs start (skip + count - 1) w.count (omega (arith, end, some)) within))
+    (λ e. greatest_whole (omega (arith, e, before, some))))
+
+-- ---- runs that stand side by side
 
 -- an element of a run is that of the list
 pub run_at : {X : Type 0} (fs : List X) (at : ℕ) (run : List X) (k : ℕ) (d : X) → IsRunFrom fs at run
@@ -596,37 +481,83 @@ run_within fs at run is =
     let rest = length-drop at fs in
     grind (arith, long, cut, rest, is.some)
 
--- what a pass knows behind a run in which the id isn't
-pub passed_more : (id : ℕ) (fs : List Feature) (at : ℕ) (run : List Feature) → IsRunFrom fs at run
-    → position (is_feature id) run ≡ None
-    → ((k : ℕ) (d : Feature) → k < at → is_feature id (get_or fs k d) ≡ false)
-    → (k : ℕ) (d : Feature) → k < at + length run → is_feature id (get_or fs k d) ≡ false
-passed_more id fs at run is none before k d within = dite (dec_le at k)
+-- ---- a pass by parts
+
+-- an element of a part is that of the list
+pub part_at : (fs : List Feature) (start count k : ℕ) (d : Feature) → k < count
+    → get_or (take count (drop start fs)) k d ≡ get_or fs (start + k) d
+part_at fs start count k d l = get_or-take count (drop start fs) k d l ∙ get_or-drop start fs k d
+
+pub part_long : (fs : List Feature) (start count : ℕ) → start + count ≤ length fs
+    → length (take count (drop start fs)) ≡ count
+part_long fs start count within =
+    let rest = length-drop start fs in length-take-le count (drop start fs) (omega (arith, rest, within))
+
+-- the ids of a part
+pub part_ids : (fs : List Feature) (start count : ℕ)
+    → ids_of (take count (drop start fs)) ≡ take count (drop start (ids_of fs))
+part_ids fs start count =
+    sym (take-map (λ (f : Feature). f.id) count (drop start fs))
+    ∙ ap (λ l. take count l) (sym (drop-map (λ (f : Feature). f.id) start fs))
+
+-- what a pass knows behind a part in which the id isn't
+pub passed_more : (id : ℕ) (fs : List Feature) (start count : ℕ) → start + count ≤ length fs
+    → position (is_feature id) (take count (drop start fs)) ≡ None
+    → ((k : ℕ) (d : Feature) → k < start → is_feature id (get_or fs k d) ≡ false)
+    → (k : ℕ) (d : Feature) → k < start + count → is_feature id (get_or fs k d) ≡ false
+passed_more id fs start count within none before k d l = dite (dec_le start k)
     (λ from.
-    let j : at + (k - at) ≡ k = omega arith in
+    let j : start + (k - start) ≡ k = omega (arith, from) in
     ap (λ n. is_feature id (get_or fs n d)) (sym j)
-    ∙ ap (is_feature id) (run_at fs at run (k - at) d is (omega arith))
-    ∙ none_at (is_feature id) run (k - at) d none (omega arith)) (λ early. before k d (omega arith))
+    ∙ ap (is_feature id) (sym (part_at fs start count (k - start) d (omega (arith, from, l))))
+    ∙ none_at (is_feature id) (take count (drop start fs)) (k - start) d none
+    (let long = part_long fs start count within in omega (arith, from, l, long)))
+    (λ early. before k d (omega (arith, early)))
 
 -- and what it finds in one
-pub passed_found : (id : ℕ) (fs : List Feature) (at : ℕ) (run : List Feature) (place : ℕ) → IsRunFrom fs at run
-    → position (is_feature id) run ≡ Some place
-    → ((k : ℕ) (d : Feature) → k < at → is_feature id (get_or fs k d) ≡ false)
-    → position (is_feature id) fs ≡ Some (at + place)
-passed_found id fs at [] place is h before = absurd (let none = is.some in omega arith)
-passed_found id fs at (f ∷ rest) place is h before =
-    let run = f ∷ rest in
-    let known = position-Some (is_feature id) run place f h in
-    position_at id fs (at + place) (omega (arith, run_within fs at run is, known.0))
-    (λ d. ap (is_feature id) (run_at fs at run place d is known.0)
-    ∙ (position-Some (is_feature id) run place d h).1)
-    (λ k d l. dite (dec_le at k)
+pub passed_found : (id : ℕ) (fs : List Feature) (start count place : ℕ) → start + count ≤ length fs
+    → position (is_feature id) (take count (drop start fs)) ≡ Some place
+    → ((k : ℕ) (d : Feature) → k < start → is_feature id (get_or fs k d) ≡ false)
+    → position (is_feature id) fs ≡ Some (start + place)
+passed_found id [] start count place within h before =
+    absurd (some (take count (drop start [])) (let long = part_long [] start count within in omega (arith, long, within)) h)
+  where
+    some : (fs : List Feature) → length fs ≡ 0 → position (is_feature id) fs ≡ Some place → ⊥
+    some [] none e = grind (arith, e)
+    some (f ∷ fs) none e = omega (arith, none)
+passed_found id (f ∷ fs) start count place within h before =
+    let all = f ∷ fs in
+    let part = take count (drop start all) in
+    let long = part_long all start count within in
+    let known = position-Some (is_feature id) part place f h in
+    let inside : place < count = omega (arith, known.0, long) in
+    position_at id all (start + place) (omega (arith, inside, within))
+    (λ d. ap (is_feature id) (sym (part_at all start count place d inside))
+    ∙ (position-Some (is_feature id) part place d h).1)
+    (λ k d l. dite (dec_le start k)
     (λ from.
-    let j : at + (k - at) ≡ k = omega arith in
-    ap (λ n. is_feature id (get_or fs n d)) (sym j)
-    ∙ ap (is_feature id) (run_at fs at run (k - at) d is (omega (arith, l, known.0)))
-    ∙ (position-Some (is_feature id) run place d h).2 (k - at) (omega (arith, l, from)))
-    (λ early. before k d (omega arith)))
+    let j : start + (k - start) ≡ k = omega (arith, from) in
+    ap (λ n. is_feature id (get_or all n d)) (sym j)
+    ∙ ap (is_feature id) (sym (part_at all start count (k - start) d (omega (arith, from, l, inside))))
+    ∙ (position-Some (is_feature id) part place d h).2 (k - start) (omega (arith, l, from)))
+    (λ early. before k d (omega (arith, early))))
+
+-- no id of a stretch is beyond its bounds
+pub none_beyond : (s : Stretch) (id : ℕ) (fs : List Feature) → IsStretch s (ids_of fs)
+    → ((s.least ≤ id) × (id ≤ s.greatest) → ⊥) → position (is_feature id) fs ≡ None
+none_beyond s id fs h beyond = position_none id fs
+    (λ k d l.
+    let above = all_at (λ y. s.least ≤ y) fs k d h.above l in
+    let below = all_at (λ y. y ≤ s.greatest) fs k d h.below l in
+    dite (ℕ_discrete (get_or fs k d).id id)
+    (λ e. absurd (beyond (omega (arith, e, above), omega (arith, e, below))))
+    (λ ne. grind (arith, nat_tests, ne)))
+  where
+    all_at : (P : ℕ → Type 0) (fs : List Feature) (k : ℕ) (d : Feature) → AllByRecursion P (ids_of fs) → k < length fs
+        → P (get_or fs k d).id
+    all_at P [] k d h l = absurd (omega (arith, l))
+    all_at P (f ∷ fs) zero d h l = h.0
+    all_at P (f ∷ fs) (suc k) d h l = all_at P fs k d h.1 (omega (arith, l))
 
 -- a list with another element at a place
 pub set_is : {X : Type 0} → (made texts : List X) (n : ℕ) (value : X) → n < length texts

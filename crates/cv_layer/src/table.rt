@@ -1,17 +1,20 @@
 //! What a text layer holds.
 
-ghost use Rattle.std.specs.Prelude.{◌≡◌, ℕ, ◌+◌, ◌<◌, ◌≤◌, true, false, [], length, sum_by, IfOk};
-ghost use Rattle.std.specs.Prelude.{insert, slice_set, slice_get, slice_index_or, Some, None, position, take};
+ghost use Rattle.std.specs.Prelude.{◌≡◌, ℕ, List, ◌+◌, ◌-◌, ◌<◌, ◌≤◌, ◌++◌, [], length, sum_by, IfOk, OnOk};
+ghost use Rattle.std.specs.Prelude.{insert, remove, slice_set, slice_get, slice_index_or, Some, position, false};
+ghost use Rattle.std.specs.Prelude.{take, drop};
 ghost use Rattle.std.specs.List.{list_any};
 ghost use Rattle.cv_model.specs.Edits.{feature_vertices, is_feature, change_feature, without_feature};
 ghost use Rattle.cv_model.specs.Features.{IsFeatureTable, ids_of};
 ghost use Rattle.cv_model.specs.declared.feature.Feature.{Feature};
-ghost use Rattle.cv_layer.specs.Tables.{Ascend, IsBetween, IsTable, feature_values};
+ghost use Rattle.cv_layer.specs.Stretches.{Ascend, IsStretch, AreStretches};
+ghost use Rattle.cv_layer.specs.Tables.{IsTable, feature_values};
 
 use crate::row::{FeatureRow, no_values};
+use crate::stretches::{Stretch, put, sum};
 use cv_chunks::{Chunked, Growing, Shared};
 use cv_model::{Feature, FeatureList, Geometry, NoMemory, Text, Values};
-use std::alloc::{AllocError, Global};
+use std::alloc::Global;
 use std::marker::Model;
 
 /// The features of a text layer, seen as the names of its columns and the features in order.
@@ -23,7 +26,7 @@ pub struct Table {
     alloc: Global,
     columns: Shared<Values>,
     rows: Chunked<FeatureRow>,
-    ascending: u64,
+    stretches: Shared<Vec<Stretch>>,
     vertices: u64,
     values: u64,
 }
@@ -36,117 +39,44 @@ impl Model for Table {
     ghost view = { λ t. record { columns = t.columns; features = t.rows } };
 
     ghost invariant = { λ t. IsTable (record { columns = t.columns; features = t.rows })
-        t.ascending t.vertices t.values };
+        t.stretches.items t.vertices t.values };
 }
 
-/// Rows, how many of the first ids are known to ascend, and the counts of their vertices and of their values.
+/// Rows, the stretches of their ids, and the counts of their vertices and of their values.
 #[derive(Drop)]
 struct Counted {
     rows: Chunked<FeatureRow>,
-    ascending: u64,
+    stretches: Vec<Stretch>,
     vertices: u64,
     values: u64,
-}
-
-/// The sum of two counts. One that 64 bits don't hold is want of memory, which no such count fits.
-fn sum(a: u64, b: u64) -> Result<u64, NoMemory>
-    ensures { IfOk result (λ sum. sum ≡ a + b) }
-{
-    a.checked_add(b).ok_or(AllocError)
-}
-
-/// Whether ids that are less than `least` still ascend with one more behind them, if they did before.
-fn still_ascend(ascending: bool, least: u64, id: u32) -> bool
-    ensures { result ≡ true → (ascending ≡ true) × (least ≤ id) }
-{
-    ascending && least <= u64::from(id)
 }
 
 /// The rows of these features, in order. The features are moved into them. Each is looked at while its row is
 /// made, as its geometry is at hand then.
 fn rows_of(alloc: Global, features: Vec<Feature>) -> Result<Counted, NoMemory>
     ensures rows { IfOk result (λ made. made.rows ≡ features.items) }
-    ensures within { IfOk result (λ made. made.ascending ≤ length features.items) }
-    ensures ascend { IfOk result (λ made. Ascend (take made.ascending (ids_of features.items))) }
+    ensures stretches { IfOk result (λ made. AreStretches made.stretches.items (ids_of features.items)) }
     ensures vertices { IfOk result (λ made. made.vertices ≡ sum_by feature_vertices features.items) }
     ensures values { IfOk result (λ made. made.values ≡ sum_by feature_values features.items) }
 {
     let mut rows = Growing::new(alloc);
     let none = no_values(alloc)?;
-    let mut ascending = true;
-    let mut least: u64 = 0;
+    let mut stretches = Vec::new(alloc);
     let mut vertices: u64 = 0;
     let mut values: u64 = 0;
     for feature in features {
         let row = FeatureRow::of(alloc, feature, &none)?;
-        ascending = still_ascend(ascending, least, row.id());
-        least = u64::from(row.id()) + 1;
+        put(&mut stretches, Stretch::of(row.id()))?;
         vertices = sum(vertices, row.vertices()?)?;
         values = sum(values, row.values().len() as u64)?;
         rows.put(row)?;
     }
-    let rows = rows.finish()?;
-    let ascending = if ascending { rows.len() } else { 0 };
     Ok(Counted {
-        rows,
-        ascending,
+        rows: rows.finish()?,
+        stretches,
         vertices,
         values,
     })
-}
-
-/// The place of the feature with an id among the first, whose ids ascend.
-fn find_by_halves(rows: &Chunked<FeatureRow>, first: u64, id: u32) -> Option<u64>
-    requires within { first ≤ length rows.now }
-    requires ascend { Ascend (take first (ids_of rows.now)) }
-    ensures { result ≡ position (is_feature id) (take first rows.now) }
-{
-    let mut low = 0;
-    let mut high = first;
-    while low < high {
-        let middle = low + (high - low) / 2;
-        if id_at(rows, middle) < id {
-            low = middle + 1;
-        } else {
-            high = middle;
-        }
-    }
-    if low == first {
-        return None;
-    }
-    if id_at(rows, low) == id {
-        Some(low)
-    } else {
-        None
-    }
-}
-
-/// The place of the feature with an id among rows that stand side by side.
-fn place_in(rows: &[FeatureRow], id: u32) -> Option<usize>
-    ensures { result ≡ position (is_feature id) rows.now }
-{
-    rows.iter().position(
-        |row| -> bool
-            ensures { result ≡ is_feature id row.now }
-        { row.id() == id },
-    )
-}
-
-/// The place of the feature with an id that the first features haven't, by one pass over the others.
-fn find_by_pass(rows: &Chunked<FeatureRow>, first: u64, id: u32) -> Option<u64>
-    requires within { first ≤ length rows.now }
-    requires none { position (is_feature id) (take first rows.now) ≡ None }
-    ensures { result ≡ position (is_feature id) rows.now }
-{
-    let mut at = first;
-    while at < rows.len() {
-        let run = rows.run_from(at);
-        match place_in(run, id) {
-            Some(place) => return Some(at + place as u64),
-            None => at += run.len() as u64,
-        }
-    }
-    None
 }
 
 /// The id of the feature at a place.
@@ -160,51 +90,64 @@ fn id_at(rows: &Chunked<FeatureRow>, at: u64) -> u32
     row.id()
 }
 
-/// Whether an id is greater than that of the feature before a place.
-fn is_above(rows: &Chunked<FeatureRow>, at: u64, id: u32) -> bool
-    requires { at ≤ length rows.now }
-    ensures { result ≡ true → (k : ℕ) (d : Feature) → k + 1 ≡ at
-        → (slice_index_or rows.now k d).id < id }
+/// The place of the feature with an id among those from a place on to another, whose ids ascend. It is counted
+/// from the first of these.
+fn find_within(rows: &Chunked<FeatureRow>, start: u64, end: u64, id: u32) -> Option<u64>
+    requires order { start ≤ end }
+    requires within { end ≤ length rows.now }
+    requires ascend { Ascend (take (end - start) (drop start (ids_of rows.now))) }
+    ensures { result ≡ position (is_feature id) (take (end - start) (drop start rows.now)) }
 {
-    if at == 0 {
-        return true;
+    let count = end - start;
+    let mut low = 0;
+    let mut high = count;
+    while low < high {
+        let middle = low + (high - low) / 2;
+        if id_at(rows, start + middle) < id {
+            low = middle + 1;
+        } else {
+            high = middle;
+        }
     }
-    id_at(rows, at - 1) < id
-}
-
-/// Whether an id is less than that of the feature at a place, if that is one of the first.
-fn is_below(rows: &Chunked<FeatureRow>, first: u64, at: u64, id: u32) -> bool
-    requires place { at ≤ first }
-    requires within { first ≤ length rows.now }
-    ensures { result ≡ true → (d : Feature) → at < first → id < (slice_index_or rows.now at d).id }
-{
-    if at == first {
-        return true;
+    if low == count {
+        return None;
     }
-    id < id_at(rows, at)
-}
-
-/// Whether an id is greater than those of the features before a place, and less than those of the others
-/// among the first, whose ids ascend.
-fn is_between(rows: &Chunked<FeatureRow>, first: u64, at: u64, id: u32) -> bool
-    requires place { at ≤ first }
-    requires within { first ≤ length rows.now }
-    requires ascend { Ascend (take first (ids_of rows.now)) }
-    ensures { result ≡ true → IsBetween (take first (ids_of rows.now)) at id }
-{
-    if is_above(rows, at, id) {
-        is_below(rows, first, at, id)
+    if id_at(rows, start + low) == id {
+        Some(low)
     } else {
-        false
+        None
     }
 }
 
-/// How many of the first ids ascend where the one at a place is gone.
-fn ascending_without(first: u64, at: u64) -> u64
-    ensures less { at < first → result + 1 ≡ first }
-    ensures same { first ≤ at → result ≡ first }
+/// The place of the feature with an id among those of a stretch, which starts at a place and ends at another.
+/// It is counted from the first of these.
+fn find_in(
+    rows: &Chunked<FeatureRow>,
+    stretch: &Stretch,
+    start: u64,
+    end: u64,
+    id: u32,
+) -> Option<u64>
+    requires order { start ≤ end }
+    requires within { end ≤ length rows.now }
+    requires stretch { IsStretch stretch.now (take (end - start) (drop start (ids_of rows.now))) }
+    ensures { result ≡ position (is_feature id) (take (end - start) (drop start rows.now)) }
 {
-    if at < first { first - 1 } else { first }
+    if stretch.spans(id) {
+        find_within(rows, start, end, id)
+    } else {
+        None
+    }
+}
+
+/// The stretches, at a place where a table shares them.
+fn shared(alloc: Global, stretches: Vec<Stretch>) -> Result<Shared<Vec<Stretch>>, NoMemory>
+    ensures { IfOk result (λ made. made ≡ stretches) }
+{
+    match Shared::of(alloc, stretches) {
+        Ok(stretches) => Ok(stretches),
+        Err(refused) => Err(refused.1),
+    }
 }
 
 impl Table {
@@ -223,7 +166,7 @@ impl Table {
             alloc,
             columns,
             rows: made.rows,
-            ascending: made.ascending,
+            stretches: shared(alloc, made.stretches)?,
             vertices: made.vertices,
             values: made.values,
         })
@@ -243,14 +186,6 @@ impl Table {
             (record { columns = self.now.columns; features = self.now.features; notes = [] }) }
     {
         &self.rows
-    }
-
-    /// Whether the ids are known to ascend from feature to feature. They are where a list in this order was
-    /// read, unless features from the first on that was put in with an id out of order are left.
-    pub fn ids_ascend(&self) -> bool
-        ensures { result ≡ true → Ascend (ids_of self.now.features) }
-    {
-        self.ascending == self.rows.len()
     }
 
     /// How many vertices all geometries have together.
@@ -275,33 +210,49 @@ impl Table {
             alloc: self.alloc,
             columns: self.columns.clone()?,
             rows: self.rows.share()?,
-            ascending: self.ascending,
+            stretches: self.stretches.clone()?,
             vertices: self.vertices,
             values: self.values,
         })
     }
 
-    /// The place of the feature with an id. It is found by halves among the first features, whose ids are
-    /// known to ascend, else by one pass over the others: those from the first on whose id is out of order.
+    /// The place behind a stretch that starts at one.
+    fn end_of(&self, start: u64, stretch: &Stretch) -> u64
+        requires { start + stretch.now.count ≤ length self.now.features }
+        ensures { result ≡ start + stretch.now.count }
+    {
+        // There are no more than that, so 64 bits hold the sum.
+        let _ = self.rows.len();
+        start + stretch.count
+    }
+
+    /// The place of the feature with an id. It is looked for by halves in each stretch of ascending ids whose
+    /// bounds have it. A table that was read has one stretch; each feature that is put in out of order makes
+    /// two more at most.
     pub fn find(&self, id: u32) -> Option<u64>
         ensures { result ≡ position (is_feature id) self.now.features }
     {
-        match find_by_halves(&self.rows, self.ascending, id) {
-            Some(at) => Some(at),
-            None => find_by_pass(&self.rows, self.ascending, id),
+        let mut start = 0;
+        for stretch in self.stretches.value().iter() {
+            let end = self.end_of(start, stretch);
+            match find_in(&self.rows, stretch, start, end, id) {
+                Some(at) => return Some(start + at),
+                None => start = end,
+            }
         }
+        None
     }
 
     /// A table of the same columns.
     fn with_rows(
         &self,
         rows: Chunked<FeatureRow>,
-        ascending: u64,
+        stretches: Shared<Vec<Stretch>>,
         vertices: u64,
         values: u64,
     ) -> Result<Table, NoMemory>
         requires { IsTable (record { columns = self.now.columns; features = rows })
-            ascending vertices values }
+            stretches.items vertices values }
         ensures { IfOk result
             (λ made. made ≡ record { columns = self.now.columns; features = rows }) }
     {
@@ -309,28 +260,86 @@ impl Table {
             alloc: self.alloc,
             columns: self.columns.clone()?,
             rows,
-            ascending,
+            stretches,
             vertices,
             values,
         })
     }
 
-    /// How many of the first ids are known to ascend, with this one at a place. A number that 64 bits don't
-    /// hold is want of memory.
-    fn ascending_with(&self, at: u64, id: u32) -> Result<u64, NoMemory>
-        requires { at ≤ length self.now.features }
-        ensures within { IfOk result (λ first. first ≤ length self.now.features + 1) }
-        ensures ascend { IfOk result
-            (λ first. Ascend (take first (insert (ids_of self.now.features) at id))) }
+    /// The stretch of the features at places from one on to another, which are some of those of a stretch that
+    /// starts at a place and ends at another.
+    fn cut(&self, whole: &Stretch, start: u64, end: u64, from: u64, to: u64) -> Stretch
+        requires whole { IsStretch whole.now (take whole.now.count (drop start (ids_of self.now.features))) }
+        requires end { end ≡ start + whole.now.count }
+        requires within { end ≤ length self.now.features }
+        requires from { start ≤ from }
+        requires some { from < to }
+        requires to { to ≤ end }
+        ensures { IsStretch result (take (to - from) (drop from (ids_of self.now.features))) }
     {
-        if at > self.ascending {
-            return Ok(self.ascending);
-        }
-        if is_between(&self.rows, self.ascending, at, id) {
-            sum(self.ascending, 1)
+        let least = if from == start {
+            whole.least
         } else {
-            Ok(at)
+            id_at(&self.rows, from)
+        };
+        let greatest = if to == end {
+            whole.greatest
+        } else {
+            id_at(&self.rows, to - 1)
+        };
+        Stretch {
+            count: to - from,
+            least,
+            greatest,
         }
+    }
+
+    /// Puts the stretches of the features at places from one on to another behind others.
+    fn put_range(&self, made: &mut Vec<Stretch>, from: u64, to: u64) -> Result<(), NoMemory>
+        requires order { from ≤ to }
+        requires within { to ≤ length self.now.features }
+        ensures { OnOk result ((before : List ℕ) → AreStretches made.old.items before
+            → AreStretches made.new.items
+            (before ++ take (to - from) (drop from (ids_of self.now.features)))) }
+    {
+        let mut start = 0;
+        let mut done = from;
+        for stretch in self.stretches.value().iter() {
+            let end = self.end_of(start, stretch);
+            let until = end.min(to);
+            if done < until {
+                put(made, self.cut(stretch, start, end, done, until))?;
+                done = until;
+            }
+            start = end;
+        }
+        Ok(())
+    }
+
+    /// The stretches of the ids with one more, which stands at a place.
+    fn stretches_with(&self, at: u64, id: u32) -> Result<Vec<Stretch>, NoMemory>
+        requires { at ≤ length self.now.features }
+        ensures { IfOk result
+            (λ made. AreStretches made.items (insert (ids_of self.now.features) at id)) }
+    {
+        let mut made = Vec::new(self.alloc);
+        self.put_range(&mut made, 0, at)?;
+        put(&mut made, Stretch::of(id))?;
+        self.put_range(&mut made, at, self.rows.len())?;
+        Ok(made)
+    }
+
+    /// The stretches of the ids without that at a place.
+    fn stretches_without(&self, at: u64) -> Result<Vec<Stretch>, NoMemory>
+        requires { at < length self.now.features }
+        ensures { IfOk result
+            (λ made. AreStretches made.items (remove (ids_of self.now.features) at)) }
+    {
+        let count = self.rows.len();
+        let mut made = Vec::new(self.alloc);
+        self.put_range(&mut made, 0, at)?;
+        self.put_range(&mut made, at + 1, count)?;
+        Ok(made)
     }
 
     /// The table with a feature more, which stands at a place and whose id is new.
@@ -342,12 +351,12 @@ impl Table {
             (λ made. made ≡ record self.now { features = (insert self.now.features at feature) }) }
     {
         let row = FeatureRow::of(self.alloc, feature, &no_values(self.alloc)?)?;
-        let ascending = self.ascending_with(at, row.id())?;
+        let stretches = shared(self.alloc, self.stretches_with(at, row.id())?)?;
         let vertices = sum(self.vertices, row.vertices()?)?;
         let values = sum(self.values, row.values().len() as u64)?;
         let mut rows = self.rows.share()?;
         match rows.insert(at, row) {
-            Ok(()) => self.with_rows(rows, ascending, vertices, values),
+            Ok(()) => self.with_rows(rows, stretches, vertices, values),
             Err(refused) => Err(refused.1),
         }
     }
@@ -365,8 +374,8 @@ impl Table {
         let values = self.values - row.values().len() as u64;
         let mut rows = self.rows.share()?;
         rows.remove(at)?;
-        let ascending = ascending_without(self.ascending, at);
-        self.with_rows(rows, ascending, vertices, values)
+        let stretches = shared(self.alloc, self.stretches_without(at)?)?;
+        self.with_rows(rows, stretches, vertices, values)
     }
 
     /// The table with another row, of the same id and as many values, at a place.
@@ -381,9 +390,10 @@ impl Table {
             unreachable!()
         };
         let vertices = sum(self.vertices - old.vertices()?, row.vertices()?)?;
+        let stretches = self.stretches.clone()?;
         let mut rows = self.rows.share()?;
         match rows.set(at, row) {
-            Ok(()) => self.with_rows(rows, self.ascending, vertices, self.values),
+            Ok(()) => self.with_rows(rows, stretches, vertices, self.values),
             Err(refused) => Err(refused.1),
         }
     }

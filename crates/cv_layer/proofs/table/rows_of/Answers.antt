@@ -1,31 +1,31 @@
-use Rattle.std.proofs.Common.{◌<◌, ◌+◌, ap, arith, length, refl, rules}
-use Rattle.std.proofs.lemmas.List.Elements.{All-push, All-weaker}
+use Rattle.std.proofs.Common.{◌∙◌, ◌++◌, ◌∷◌, [], ap, subst, sym, length, refl, rules}
+use Rattle.std.proofs.lemmas.List.{map-append}
 use Rattle.std.proofs.lemmas.List.Sums.{sum_by_push}
 use Rattle.cv_model.specs.Edits.{feature_vertices}
+use Rattle.cv_model.specs.Features.{ids_of}
 use Rattle.cv_model.specs.declared.feature.Feature.{Feature}
+use Rattle.cv_layer.specs.Stretches.{AreStretches}
 use Rattle.cv_layer.specs.Tables.{feature_values}
-use Rattle.cv_layer.proofs.TableLemmas.{push_ascends}
 use Rattle.cv_layer.proofs.table.rows_of.Goals as goal
+
+pub loop-feature-init : goal.loop-feature-init
+loop-feature-init c = record {
+  made = search rules;
+  stretches = subst (λ l. AreStretches l []) (sym c.new-stretches.ensures.items) (λ i. []);
+  vertices = λ i. 0;
+  values = λ i. 0;
+}
 
 pub loop-feature-preserved : goal.loop-feature-preserved
 loop-feature-preserved c = record {
   made = search rules;
-  ascend = λ e.
-      let known = c.still_ascend-ascending.ensures e in
-      let least = c.loop-feature.least in
-      let next = c.from-least.result + 1 in
+  stretches =
       let feature = c.in-Some.feature in
-      let same = ap (λ (f : Feature). f.id) c.in_ok-row.ensures in
-      let was = c.loop-feature.invariant.ascend known.0 in
-      let all = All-weaker (λ (f : Feature). f.id < least) (λ (f : Feature). f.id < feature.id)
-      (λ f less. omega (arith, less, known.1, c.id.ensures, same)) c.loop-feature.yielded was.0 in (
-        All-push (λ (f : Feature). f.id < next) c.loop-feature.yielded feature
-            (All-weaker (λ (f : Feature). f.id < feature.id) (λ (f : Feature). f.id < next)
-            (λ f less. omega (arith, less, c.from-least.ensures, c.id-in-loop-feature.ensures, same))
-            c.loop-feature.yielded all)
-            (omega (arith, c.from-least.ensures, c.id-in-loop-feature.ensures, same)),
-        push_ascends c.loop-feature.yielded feature was.1 all,
-      );
+      let same = c.id.ensures ∙ ap (λ (f : Feature). f.id) c.in_ok-row.ensures in
+      subst (AreStretches c.put.new.stretches.items)
+      (ap (λ n. ids_of c.loop-feature.yielded ++ n ∷ []) same
+      ∙ sym (map-append (λ (f : Feature). f.id) c.loop-feature.yielded (feature ∷ [])))
+      (c.in_ok-put.ensures (ids_of c.loop-feature.yielded) (c.id.result ∷ []) c.loop-feature.invariant.stretches c.of-in-loop-feature.ensures);
   vertices = rw (
     sum_by_push feature_vertices c.loop-feature.yielded c.in-Some.feature,
     c.in_ok-vertices-2.ensures,

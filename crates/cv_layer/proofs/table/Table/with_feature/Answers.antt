@@ -15,7 +15,6 @@ with_rows-requires c =
       c.values.ensures,
     )
     (table_insert (record { columns = c.self.inside.columns; features = c.self.inside.rows })
-    c.in_ok-ascending.ascending c.self.inside.ascending c.self.inside.vertices c.self.inside.values c.args.at
-    c.in_ok-row.row c.self.invariant fresh even
-    (rw (← c.self.view_is) at c.requires.place) (rw (← c.self.view_is) at c.in_ok-ascending.ensures.within)
-    (rw (← c.self.view_is, c.id.ensures) at c.in_ok-ascending.ensures.ascend))
+    c.in_ok-stretches.stretches.items c.self.inside.stretches.items c.self.inside.vertices c.self.inside.values
+    c.args.at c.in_ok-row.row c.self.invariant fresh even (rw (← c.self.view_is) at c.requires.place)
+    (rw (c.in_ok-stretches.ensures) (rw (← c.self.view_is, c.id.ensures) at c.in_ok-stretches_with.ensures)))

@@ -19,7 +19,7 @@ pub returns : goal.returns
 returns c =
     let place = rw (← c.self.view_is) at c.requires in
     let e = changed c.args.id (λ f. record f { geometry = c.args.geometry })
-    (record { columns = c.self.inside.columns; features = c.self.inside.rows }) c.self.inside.ascending
+    (record { columns = c.self.inside.columns; features = c.self.inside.rows }) c.self.inside.stretches.items
     c.self.inside.vertices c.self.inside.values c.args.at c.in-Some.row.now c.in_ok-with_geometry.field-0
     c.self.invariant place (sym c.in-Some.ensures) c.in_ok-with_geometry.ensures in
     rw (← c.self.view_is, e) (rw (← c.self.view_is) at c.with_row.ensures)

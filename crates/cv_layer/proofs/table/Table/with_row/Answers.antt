@@ -1,4 +1,4 @@
-use Rattle.std.proofs.Common.{arith, sym}
+use Rattle.std.proofs.Common.{◌≡◌, arith, sym}
 use Rattle.cv_model.specs.Edits.{feature_vertices}
 use Rattle.cv_layer.proofs.TableLemmas.{part_of_total, table_set}
 use Rattle.cv_layer.proofs.table.Table.with_row.Goals as goal
@@ -17,9 +17,10 @@ with_rows-requires c =
     let found = sym c.in-Some.ensures in
     let alike = rw (← c.self.view_is) at c.requires.alike in
     let within = part_of_total feature_vertices c.self.inside.rows c.args.at c.in-Some.old.now found in
-    rw (← c.self.view_is, c.in-Ok.ensures.ok, c.in_ok-rows.ensures)
+    let kept : c.in_ok-stretches.stretches ≡ c.self.inside.stretches = c.in_ok-stretches.ensures.cases in
+    rw (← c.self.view_is, c.in-Ok.ensures.ok, c.in_ok-rows.ensures, kept)
     (table_set (record { columns = c.self.inside.columns; features = c.self.inside.rows })
-    c.self.inside.ascending c.self.inside.vertices c.self.inside.values c.args.at c.in_ok-vertices-3.vertices
+    c.self.inside.stretches.items c.self.inside.vertices c.self.inside.values c.args.at c.in_ok-vertices-3.vertices
     c.in-Some.old.now c.args.row c.self.invariant found (alike c.in-Some.old.now found)
     (omega (
       arith,

@@ -12,7 +12,7 @@ with_value-requires c =
       arith,
       column,
       even_at (record { columns = c.self.inside.columns; features = c.self.inside.rows })
-          c.self.inside.ascending c.self.inside.vertices c.self.inside.values c.args.at c.in-Some.row.now
+          c.self.inside.stretches.items c.self.inside.vertices c.self.inside.values c.args.at c.in-Some.row.now
           c.self.invariant (sym c.in-Some.ensures),
     )
 
@@ -34,7 +34,7 @@ pub returns : goal.returns
 returns c =
     let place = rw (← c.self.view_is) at c.requires.feature in
     let e = changed c.args.id (λ f. record f { values = (set f.values c.args.column c.args.value.now) })
-    (record { columns = c.self.inside.columns; features = c.self.inside.rows }) c.self.inside.ascending
+    (record { columns = c.self.inside.columns; features = c.self.inside.rows }) c.self.inside.stretches.items
     c.self.inside.vertices c.self.inside.values c.args.at c.in-Some.row.now c.in_ok-with_value.field-0
     c.self.invariant place (sym c.in-Some.ensures) c.in_ok-with_value.ensures in
     rw (← c.self.view_is, e) (rw (← c.self.view_is) at c.with_row.ensures)

@@ -29,16 +29,16 @@ with_rows-requires c =
     let w = part_of_total feature_values c.self.inside.rows c.args.at c.in-Some.row.now found in
     rw (← c.self.view_is, c.in_ok-remove.ensures.ok, c.in_ok-rows.ensures)
     (table_remove (record { columns = c.self.inside.columns; features = c.self.inside.rows })
-    c.ascending_without-ascending.result c.self.inside.ascending c.self.inside.vertices c.self.inside.values
-    c.args.at _ _ c.in-Some.row.now c.self.invariant found c.ascending_without-ascending.ensures.less
-    c.ascending_without-ascending.ensures.same (omega (arith, v, c.self.invariant.vertices_are, c.in_ok-vertices.ensures))
+    c.in_ok-stretches.stretches.items c.self.inside.stretches.items c.self.inside.vertices c.self.inside.values
+    c.args.at _ _ c.in-Some.row.now c.self.invariant found
+    (rw (c.in_ok-stretches.ensures) (rw (← c.self.view_is) at c.in_ok-stretches_without.ensures)) (omega (arith, v, c.self.invariant.vertices_are, c.in_ok-vertices.ensures))
     (omega (arith, w, c.self.invariant.values_are, ap length c.values.ensures)))
 
 pub returns : goal.returns
 returns c =
     let place = rw (← c.self.view_is) at c.requires in
     let e = removed c.args.id (record { columns = c.self.inside.columns; features = c.self.inside.rows })
-    c.self.inside.ascending c.self.inside.vertices c.self.inside.values c.args.at c.in-Some.row.now
+    c.self.inside.stretches.items c.self.inside.vertices c.self.inside.values c.args.at c.in-Some.row.now
     c.self.invariant place in
     rw (← c.self.view_is, e)
     (rw (← c.self.view_is, c.in_ok-remove.ensures.ok, c.in_ok-rows.ensures) at c.with_rows.ensures)
