@@ -254,11 +254,11 @@ pub range_more : (from done until : ℕ) (before ids : List ℕ) → from ≤ do
 range_more from done until before ids first more =
     append_assoc before (take (done - from) (drop from ids)) (take (until - done) (drop done ids))
     ∙ ap (λ l. before ++ l) (
-      ap (λ l. take (done - from) (drop from ids) ++ take (until - done) l)
-          (ap (λ n. drop n ids) (let e : done ≡ from + (done - from) = omega (arith, first) in e)
-          ∙ sym (drop-drop (done - from) from ids))
-      ∙ sym (take-add (done - from) (until - done) (drop from ids))
-      ∙ ap (λ n. take n (drop from ids)) (let e : (done - from) + (until - done) ≡ until - from = omega (arith, first, more) in e)
+    ap (λ l. take (done - from) (drop from ids) ++ take (until - done) l)
+    (ap (λ n. drop n ids) (let e : done ≡ from + (done - from) = omega (arith, first) in e)
+    ∙ sym (drop-drop (done - from) from ids))
+    ∙ sym (take-add (done - from) (until - done) (drop from ids))
+    ∙ ap (λ n. take n (drop from ids)) (let e : (done - from) + (until - done) ≡ until - from = omega (arith, first, more) in e)
     )
 
 -- none from a place on, behind others

@@ -2,7 +2,8 @@
 //!
 //! Contract: a layer is its core and its revision, an input the parts and stamps of `cv_model`, a painted
 //! layer a painting, whose image is the one that the definitions say. Definitions: `Stamps`, `Boxes`,
-//! `Stretches`, `Tables`, `Layers`, `Inputs`, `Strips`, in this order. The readers take no memory; no handle is needed.
+//! `Stretches`, `Tables`, `Layers`, `Inputs`, `Strips`, in this order. The readers take no memory; no handle
+//! is needed.
 #![tactic(auto)]
 
 mod boxes;

@@ -1,8 +1,8 @@
 //! What a text layer holds.
 
 ghost use Rattle.std.specs.Prelude.{◌≡◌, ℕ, List, ◌+◌, ◌-◌, ◌<◌, ◌≤◌, ◌++◌, [], length, sum_by, IfOk, OnOk};
-ghost use Rattle.std.specs.Prelude.{insert, remove, slice_set, slice_get, slice_index_or, Some, position, false};
-ghost use Rattle.std.specs.Prelude.{take, drop};
+ghost use Rattle.std.specs.Prelude.{insert, remove, slice_set, slice_get, slice_index_or, Some, position};
+ghost use Rattle.std.specs.Prelude.{false, take, drop};
 ghost use Rattle.std.specs.List.{list_any};
 ghost use Rattle.cv_model.specs.Edits.{feature_vertices, is_feature, change_feature, without_feature};
 ghost use Rattle.cv_model.specs.Features.{IsFeatureTable, ids_of};
@@ -90,8 +90,8 @@ fn id_at(rows: &Chunked<FeatureRow>, at: u64) -> u32
     row.id()
 }
 
-/// The place of the feature with an id among those from a place on to another, whose ids ascend. It is counted
-/// from the first of these.
+/// The place of the feature with an id among those from a place on to another, whose ids ascend. It is
+/// counted from the first of these.
 fn find_within(rows: &Chunked<FeatureRow>, start: u64, end: u64, id: u32) -> Option<u64>
     requires order { start ≤ end }
     requires within { end ≤ length rows.now }
@@ -266,8 +266,8 @@ impl Table {
         })
     }
 
-    /// The stretch of the features at places from one on to another, which are some of those of a stretch that
-    /// starts at a place and ends at another.
+    /// The stretch of the features at places from one on to another, which are some of those of a stretch
+    /// that starts at a place and ends at another.
     fn cut(&self, whole: &Stretch, start: u64, end: u64, from: u64, to: u64) -> Stretch
         requires whole { IsStretch whole.now (take whole.now.count (drop start (ids_of self.now.features))) }
         requires end { end ≡ start + whole.now.count }

@@ -14,14 +14,14 @@ returns c =
     let end = c.requires.end in
     let view = c.self.view_is in
     let least : ((from ≡ start → c.if-from-start.least ≡ c.args.whole.now.least)
-        × ((from ≡ start → ⊥) → (d : Feature) → c.if-from-start.least ≡ (get_or fs from d).id)) =
+    × ((from ≡ start → ⊥) → (d : Feature) → c.if-from-start.least ≡ (get_or fs from d).id)) =
     elim c.if-from-start.branch [
       | then-from-start w ↦ (λ e. w.least-is, λ ne. absurd (ne w.if-from-start.true))
       | else-from-start w ↦
           (λ e. absurd (w.if-from-start.false e), λ ne d. w.least-is ∙ w.id_at-least.ensures d)
     ] in
     let greatest : ((to ≡ c.args.end → c.if-to-end.greatest ≡ c.args.whole.now.greatest)
-        × ((to ≡ c.args.end → ⊥) → (d : Feature) → c.if-to-end.greatest ≡ (get_or fs (to - 1) d).id)) =
+    × ((to ≡ c.args.end → ⊥) → (d : Feature) → c.if-to-end.greatest ≡ (get_or fs (to - 1) d).id)) =
     elim c.if-to-end.branch [
       | then-to-end w ↦ (λ e. w.greatest-is, λ ne. absurd (ne w.if-to-end.true))
       | else-to-end w ↦
