@@ -44,14 +44,16 @@ impl Stretch {
     }
 }
 
-/// Puts a stretch behind the others. It is joined with the last one where ids ascend from that on to it.
-pub fn put(stretches: &mut Vec<Stretch>, next: Stretch) -> Result<(), NoMemory>
+/// Puts a stretch behind the others. Where ids ascend from the last one on to it, it is joined with that one
+/// if it is to be, or if both have several features: one that stands out of order would widen the bounds.
+pub fn put(stretches: &mut Vec<Stretch>, next: Stretch, joins: bool) -> Result<(), NoMemory>
     ensures { OnOk result ((before ids : List ℕ) → AreStretches stretches.old.items before
         → IsStretch next ids → AreStretches stretches.new.items (before ++ ids)) }
 {
     let count = stretches.len();
     if let Some(last) = stretches.last()
         && last.greatest < next.least
+        && (joins || last.count.min(next.count) > 1)
     {
         stretches[count - 1] = Stretch {
             count: sum(last.count, next.count)?,

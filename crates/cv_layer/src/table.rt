@@ -66,7 +66,7 @@ fn rows_of(alloc: Global, features: Vec<Feature>) -> Result<Counted, NoMemory>
     let mut values: u64 = 0;
     for feature in features {
         let row = FeatureRow::of(alloc, feature, &none)?;
-        put(&mut stretches, Stretch::of(row.id()))?;
+        put(&mut stretches, Stretch::of(row.id()), true)?;
         vertices = sum(vertices, row.vertices()?)?;
         values = sum(values, row.values().len() as u64)?;
         rows.put(row)?;
@@ -294,8 +294,15 @@ impl Table {
         }
     }
 
-    /// Puts the stretches of the features at places from one on to another behind others.
-    fn put_range(&self, made: &mut Vec<Stretch>, from: u64, to: u64) -> Result<(), NoMemory>
+    /// Puts the stretches of the features at places from one on to another behind others. The first may be
+    /// one that is to be joined with the last of these.
+    fn put_range(
+        &self,
+        made: &mut Vec<Stretch>,
+        from: u64,
+        to: u64,
+        joins: bool,
+    ) -> Result<(), NoMemory>
         requires order { from ≤ to }
         requires within { to ≤ length self.now.features }
         ensures { OnOk result ((before : List ℕ) → AreStretches made.old.items before
@@ -308,7 +315,8 @@ impl Table {
             let end = self.end_of(start, stretch);
             let until = end.min(to);
             if done < until {
-                put(made, self.cut(stretch, start, end, done, until))?;
+                let piece = self.cut(stretch, start, end, done, until);
+                put(made, piece, joins && done == from)?;
                 done = until;
             }
             start = end;
@@ -316,16 +324,32 @@ impl Table {
         Ok(())
     }
 
-    /// The stretches of the ids with one more, which stands at a place.
+    /// Whether the feature at a place, if there is one, has a greater id.
+    fn is_below(&self, at: u64, id: u32) -> bool {
+        match self.rows.get(at) {
+            Some(row) => id < row.id(),
+            None => true,
+        }
+    }
+
+    /// Whether an id is greater than that of the feature before a place, and less than that of the one
+    /// there.
+    fn fits(&self, at: u64, id: u32) -> bool {
+        (at == 0 || !self.is_below(at - 1, id)) && self.is_below(at, id)
+    }
+
+    /// The stretches of the ids with one more, which stands at a place. It is a stretch of its own where it
+    /// is out of order.
     fn stretches_with(&self, at: u64, id: u32) -> Result<Vec<Stretch>, NoMemory>
         requires { at ≤ length self.now.features }
         ensures { IfOk result
             (λ made. AreStretches made.items (insert (ids_of self.now.features) at id)) }
     {
+        let fits = self.fits(at, id);
         let mut made = Vec::new(self.alloc);
-        self.put_range(&mut made, 0, at)?;
-        put(&mut made, Stretch::of(id))?;
-        self.put_range(&mut made, at, self.rows.len())?;
+        self.put_range(&mut made, 0, at, false)?;
+        put(&mut made, Stretch::of(id), fits)?;
+        self.put_range(&mut made, at, self.rows.len(), fits && at == 0)?;
         Ok(made)
     }
 
@@ -337,8 +361,8 @@ impl Table {
     {
         let count = self.rows.len();
         let mut made = Vec::new(self.alloc);
-        self.put_range(&mut made, 0, at)?;
-        self.put_range(&mut made, at + 1, count)?;
+        self.put_range(&mut made, 0, at, false)?;
+        self.put_range(&mut made, at + 1, count, false)?;
         Ok(made)
     }
 

@@ -31,16 +31,16 @@ end_of-end-requires c =
     rw (← c.self.view_is)
     (let long = length-map c.self.inside.rows (λ (f : Feature). f.id) in omega (arith, next.within, long))
 
-pub cut-requires-clause-whole : goal.cut-requires-clause-whole
-cut-requires-clause-whole c =
+pub cut-piece-requires-clause-whole : goal.cut-piece-requires-clause-whole
+cut-piece-requires-clause-whole c =
     rw (← c.self.view_is)
     (next_stretch c.deref-stretch-items.result.now c.self.inside.stretches.items c.loop-stretch.stretch-index
     c.loop-stretch.start none (ids_of c.self.inside.rows)
     (c.deref-stretch-items.ensures.value ∙ ap (λ v. v.items) c.value.ensures) c.self.invariant.stretches
     c.loop-stretch-test.true c.loop-stretch.invariant.start).is
 
-pub cut-requires-clause-within : goal.cut-requires-clause-within
-cut-requires-clause-within c =
+pub cut-piece-requires-clause-within : goal.cut-piece-requires-clause-within
+cut-piece-requires-clause-within c =
     let next = next_stretch c.deref-stretch-items.result.now c.self.inside.stretches.items
     c.loop-stretch.stretch-index c.loop-stretch.start none (ids_of c.self.inside.rows)
     (c.deref-stretch-items.ensures.value ∙ ap (λ v. v.items) c.value.ensures) c.self.invariant.stretches
@@ -49,8 +49,8 @@ cut-requires-clause-within c =
     (let long = length-map c.self.inside.rows (λ (f : Feature). f.id) in
     omega (arith, next.within, long, c.end_of-end.ensures))
 
-pub cut-requires-clause-from : goal.cut-requires-clause-from
-cut-requires-clause-from c =
+pub cut-piece-requires-clause-from : goal.cut-piece-requires-clause-from
+cut-piece-requires-clause-from c =
     c.loop-stretch.invariant.met (grind (arith, c.if-done-until.true, c.min-until.ensures))
 
 pub loop-stretch-preserved : goal.loop-stretch-preserved
@@ -71,7 +71,7 @@ loop-stretch-preserved c =
             made = λ before h.
                 let before_it = was.made before h in
                 let more = w.in_ok-put.ensures (before ++ take (c.loop-stretch.done - c.args.from) (drop c.args.from ids))
-                (take (c.min-until.result - c.loop-stretch.done) (drop c.loop-stretch.done ids)) before_it w.cut.ensures in
+                (take (c.min-until.result - c.loop-stretch.done) (drop c.loop-stretch.done ids)) before_it w.cut-piece.ensures in
                 let joined = range_more c.args.from c.loop-stretch.done c.min-until.result before ids was.from
                 (omega (arith, w.if-done-until.true)) in
                 rw (w.made-is, w.done-is) (subst (AreStretches w.put.new.stretches.items) joined more);
